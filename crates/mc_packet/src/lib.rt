@@ -1,0 +1,14 @@
+//! The words of a demuxer: packets and their places, endings and marks of a film, and the
+//! views and limits of a cache. It takes nothing and reads nothing; every other crate speaks
+//! in these types.
+#![tactic(auto)]
+
+mod cache;
+mod choice;
+mod packet;
+mod walk;
+
+pub use cache::{CacheView, Heads, Limits, RangeView, RangeViews, Spans, Status};
+pub use choice::{Choice, Kind, Starts, TrackNo, Why};
+pub use packet::{NoMemory, Packet, Packets, Pos, sum, weight};
+pub use walk::{Chunk, Ending, Fault, Level, Mark};

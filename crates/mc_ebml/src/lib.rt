@@ -1,0 +1,10 @@
+//! Reads and writes the parts of an EBML element (RFC 8794): IDs, data sizes, heads, unsigned
+//! integers and texts. It takes octets and gives what `specs/Element` says stands there, or the
+//! fault; what it writes is read back as what was handed in.
+#![tactic(auto)]
+
+mod read;
+
+pub use read::{
+    Coded, EbmlError, Head, Size, read_coded, read_head, read_id, read_size, read_uint,
+};

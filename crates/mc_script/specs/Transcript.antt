@@ -1,0 +1,60 @@
+-- The text of a journal: one line for each record, the oldest first.
+use Rattle.std.specs.Prelude.{ℕ, ℤ, Bool, if◌then◌else◌, List, [], ◌∷◌, ◌++◌, codes, decimal}
+use Rattle.std.specs.Fmt.{signed_decimal}
+use Rattle.std.specs.List.{flat_map}
+use Rattle.mc_packet.specs.declared.walk.Ending.{Ending}
+use Rattle.mc_packet.specs.declared.walk.Ending.TheVariants.{Clean, Cut, Damaged}
+use Rattle.mc_packet.specs.declared.walk.Fault.{Fault}
+use Rattle.mc_packet.specs.declared.walk.Fault.TheVariants as faults
+use Rattle.mc_packet.specs.declared.packet.Pos.{Pos}
+use Rattle.mc_journal.specs.declared.record.DemuxRecord.{DemuxRecord}
+use Rattle.mc_journal.specs.declared.record.DemuxRecord.TheVariants.{Opened, Gave, Ended}
+
+-- parts of a text, one after the other
+abbrev pub joined : List (List ℕ) → List ℕ
+joined [] = []
+joined (x ∷ []) = x
+joined (x ∷ y ∷ ys) = x ++ joined (y ∷ ys)
+
+-- a frame that starts decoding, another one of a keyframe block, or any other
+abbrev pub mark_text : Bool → Bool → List ℕ
+mark_text sync key = if sync then codes "sync" else (if key then codes "key" else codes "inter")
+
+abbrev pub fault_text : Fault → List ℕ
+fault_text faults.BadId = codes "BadId"
+fault_text faults.BadSize = codes "BadSize"
+fault_text faults.NoSize = codes "NoSize"
+fault_text faults.Overrun = codes "Overrun"
+fault_text faults.TooLarge = codes "TooLarge"
+fault_text faults.BadUint = codes "BadUint"
+fault_text faults.NoTime = codes "NoTime"
+fault_text faults.ShortBlock = codes "ShortBlock"
+fault_text faults.BadLace = codes "BadLace"
+fault_text faults.TimeRange = codes "TimeRange"
+fault_text faults.BadGroup = codes "BadGroup"
+
+abbrev pub ending_text : Ending → List ℕ
+ending_text Clean = codes "clean\n"
+ending_text (Cut at) = joined (codes "cut " ∷ decimal at ∷ codes "\n" ∷ [])
+ending_text (Damaged at fault) = joined (codes "damaged " ∷ decimal at ∷ codes " " ∷ fault_text fault ∷ codes "\n" ∷ [])
+
+-- which frame of which track, and when
+abbrev pub place_text : ℕ → Pos → ℤ → List ℕ
+place_text track pos time =
+    joined (codes "give " ∷ decimal track ∷ codes " at " ∷ decimal pos.block ∷ codes "." ∷ decimal pos.lane ∷ codes " time " ∷ signed_decimal time ∷ [])
+
+-- its payload and its mark
+abbrev pub payload_text : ℕ → ℕ → List ℕ → List ℕ
+payload_text len sum mark = joined (codes " len " ∷ decimal len ∷ codes " sum " ∷ decimal sum ∷ codes " " ∷ mark ∷ codes "\n" ∷ [])
+
+abbrev pub track_end_text : ℕ → List ℕ
+track_end_text track = joined (codes "end " ∷ decimal track ∷ codes " " ∷ [])
+
+-- the line of a record, or nothing
+abbrev pub line : DemuxRecord → List ℕ
+line (Opened by set) = []
+line (Gave by track pos time len sum sync key) = place_text track pos time ++ payload_text len sum (mark_text sync key)
+line (Ended by track ending) = track_end_text track ++ ending_text ending
+
+abbrev pub transcript : List DemuxRecord → List ℕ
+transcript h = flat_map line h

@@ -1,0 +1,115 @@
+ghost use Rattle.std.specs.Prelude.{◌≡◌, string_bytes, IfOk, OnOk, [], ◌∷◌, ◌++◌, codes, decimal};
+ghost use Rattle.mc_script.specs.Transcript.{joined, place_text, payload_text, fault_text, ending_text, track_end_text, line, mark_text, transcript};
+
+use mc_journal::{DemuxJournal, DemuxRecord};
+use mc_packet::{Ending, Fault, NoMemory, Pos};
+use std::alloc::Global;
+
+fn fault_name(fault: Fault) -> &'static str
+    ensures { result.now ≡ fault_text fault }
+{
+    match fault {
+        Fault::BadId => "BadId",
+        Fault::BadSize => "BadSize",
+        Fault::NoSize => "NoSize",
+        Fault::Overrun => "Overrun",
+        Fault::TooLarge => "TooLarge",
+        Fault::BadUint => "BadUint",
+        Fault::NoTime => "NoTime",
+        Fault::ShortBlock => "ShortBlock",
+        Fault::BadLace => "BadLace",
+        Fault::TimeRange => "TimeRange",
+        Fault::BadGroup => "BadGroup",
+    }
+}
+
+fn mark_name(sync: bool, key: bool) -> &'static str
+    ensures { result.now ≡ mark_text sync key }
+{
+    if sync {
+        "sync"
+    } else if key {
+        "key"
+    } else {
+        "inter"
+    }
+}
+
+fn push_damage(text: &mut String, at: u64, name: &str) -> Result<(), NoMemory>
+    ensures { OnOk result (string_bytes text.new ≡ string_bytes text.old ++ joined (codes "damaged " ∷ decimal at ∷ codes " " ∷ name.now ∷ codes "\n" ∷ [])) }
+{
+    write!(text, "damaged {at} {name}\n")
+}
+
+fn push_cut(text: &mut String, at: u64) -> Result<(), NoMemory>
+    ensures { OnOk result (string_bytes text.new ≡ string_bytes text.old ++ joined (codes "cut " ∷ decimal at ∷ codes "\n" ∷ [])) }
+{
+    write!(text, "cut {at}\n")
+}
+
+fn push_ending(text: &mut String, ending: Ending) -> Result<(), NoMemory>
+    ensures { OnOk result (string_bytes text.new ≡ string_bytes text.old ++ ending_text ending) }
+{
+    match ending {
+        Ending::Clean => text.push_str("clean\n"),
+        Ending::Cut(at) => push_cut(text, at),
+        Ending::Damaged(at, fault) => push_damage(text, at, fault_name(fault)),
+    }
+}
+
+fn push_track_end(text: &mut String, track: u64) -> Result<(), NoMemory>
+    ensures { OnOk result (string_bytes text.new ≡ string_bytes text.old ++ track_end_text track) }
+{
+    write!(text, "end {track} ")
+}
+
+fn push_place(text: &mut String, track: u64, pos: Pos, time: i64) -> Result<(), NoMemory>
+    ensures { OnOk result (string_bytes text.new ≡ string_bytes text.old ++ place_text track pos time) }
+{
+    let block = pos.block;
+    let lane = pos.lane;
+    write!(text, "give {track} at {block}.{lane} time {time}")
+}
+
+fn push_payload(text: &mut String, len: u64, sum: u32, mark: &str) -> Result<(), NoMemory>
+    ensures { OnOk result (string_bytes text.new ≡ string_bytes text.old ++ payload_text len sum mark.now) }
+{
+    write!(text, " len {len} sum {sum} {mark}\n")
+}
+
+// Adds the line of a record.
+fn push_line(text: &mut String, entry: &DemuxRecord) -> Result<(), NoMemory>
+    ensures { OnOk result (string_bytes text.new ≡ string_bytes text.old ++ line entry.now) }
+{
+    match *entry {
+        DemuxRecord::Opened { .. } => Ok(()),
+        DemuxRecord::Gave {
+            track,
+            pos,
+            time,
+            len,
+            sum,
+            sync,
+            key,
+            ..
+        } => {
+            push_place(text, track, pos, time)?;
+            push_payload(text, len, sum, mark_name(sync, key))
+        }
+        DemuxRecord::Ended { track, ending, .. } => {
+            push_track_end(text, track)?;
+            push_ending(text, ending)
+        }
+    }
+}
+
+/// The text of a demuxer's journal: for each record its line, ended by LF, or nothing.
+pub fn demux_text(alloc: Global, h: &DemuxJournal) -> Result<String, NoMemory>
+    ensures { IfOk result (λ s. string_bytes s ≡ transcript h.now) }
+{
+    let mut text = String::new(alloc);
+    for entry in h.as_slice() {
+        push_line(&mut text, entry)?;
+    }
+    Ok(text)
+}

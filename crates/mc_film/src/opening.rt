@@ -1,0 +1,176 @@
+ghost use Rattle.std.specs.Prelude.{◌≡◌, ◌+◌, ◌^◌, ◌<◌, ◌≤◌, length, Option, IfOk, IfSome};
+ghost use Rattle.mc_ebml.specs.Element.{IsSmall};
+ghost use Rattle.mc_tracks.specs.Children.{element_at, first, LiesIn};
+ghost use Rattle.mc_walk.specs.Opening.{end_by, segment_of, segment_child, first_child, info_in, tracks_in, header_by, header_of, info_then_tracks, tracks_then_info};
+ghost use Rattle.mc_film.specs.Film.{Gives};
+
+use crate::whole::FilmError;
+use mc_ebml::{Size, read_head};
+use mc_tracks::{Child, Refused, TrackList, ids, parse_info, parse_tracks, read_element};
+use mc_walk::{Header, Segment};
+use std::alloc::Global;
+
+const LARGEST: usize = 16_777_216;
+
+// Where a body ends, if its size is known.
+fn end_of(at: usize, size: Size) -> Option<u64>
+    requires fits { at < 2 ^ 63 }
+    requires small { IsSmall size }
+    ensures { result ≡ end_by at size }
+{
+    match size {
+        Size::Known(size) => Some(at as u64 + size),
+        Size::Unknown => None,
+    }
+}
+
+/// The first Segment from a place on, behind elements that stand whole.
+pub(crate) fn find_segment(octets: &[u8], from: usize) -> Result<Segment, Refused>
+    requires { from ≤ length octets.now }
+    ensures value { result ≡ segment_of octets.now from }
+    ensures bounds { IfOk result (λ s. s.opening ≤ length octets.now) }
+{
+    let mut place = from;
+    for _ in 0..octets.len() {
+        let Ok(head) = read_head(octets, place) else {
+            return Err(Refused::NoSegment);
+        };
+        if head.id == ids::SEGMENT {
+            return Ok(Segment {
+                opening: head.body as u64,
+                end: end_of(head.body, head.size),
+            });
+        }
+        match read_element(octets, place) {
+            Some(element) => place = element.stop,
+            None => return Err(Refused::NoSegment),
+        }
+    }
+    Err(Refused::NoSegment)
+}
+
+// The child of the Segment at a place: no Cluster, and whole in the film and in the Segment.
+fn read_segment_child(octets: &[u8], end: Option<u64>, place: usize) -> Option<Child>
+    requires { place ≤ length octets.now }
+    ensures value { result ≡ segment_child octets.now end place }
+    ensures lies { IfSome result (λ c. LiesIn (length octets.now) c) }
+{
+    if end == Some(place as u64) {
+        return None;
+    }
+    let child = read_element(octets, place)?;
+    let runs_past = end.is_some_and(|end| end < child.stop as u64);
+    if child.id == ids::CLUSTER || runs_past {
+        None
+    } else {
+        Some(child)
+    }
+}
+
+// The first child of this ID before the first Cluster.
+fn find_first(octets: &[u8], segment: Segment, id: u32) -> Option<Child>
+    requires { segment.opening ≤ length octets.now }
+    ensures value { result ≡ first_child octets.now segment id }
+    ensures lies { IfSome result (λ c. LiesIn (length octets.now) c) }
+{
+    let mut place = segment.opening as usize;
+    for _ in 0..octets.len() {
+        let child = read_segment_child(octets, segment.end, place)?;
+        if child.id == id {
+            return Some(child);
+        }
+        place = child.stop;
+    }
+    None
+}
+
+fn read_info(octets: &[u8], child: Child) -> Result<u64, FilmError>
+    requires { LiesIn (length octets.now) child }
+    ensures value { Gives result (info_in octets.now child) }
+    ensures positive { IfOk result (λ scale. 0 < scale) }
+{
+    if child.stop - child.at > LARGEST {
+        return Err(FilmError::Refused(Refused::Broken(child.place as u64)));
+    }
+    let body = &octets[child.at..child.stop];
+    Ok(parse_info(body, child.at as u64)?)
+}
+
+fn read_tracks(alloc: Global, octets: &[u8], child: Child) -> Result<TrackList, FilmError>
+    requires { LiesIn (length octets.now) child }
+    ensures { Gives result (tracks_in octets.now child) }
+{
+    if child.stop - child.at > LARGEST {
+        return Err(FilmError::Refused(Refused::Broken(child.place as u64)));
+    }
+    let body = &octets[child.at..child.stop];
+    Ok(parse_tracks(alloc, body, child.at as u64)?)
+}
+
+// Info stands before Tracks.
+fn read_info_first(
+    alloc: Global,
+    octets: &[u8],
+    info: Child,
+    tracks: Child,
+) -> Result<Header, FilmError>
+    requires info { LiesIn (length octets.now) info }
+    requires tracks { LiesIn (length octets.now) tracks }
+    ensures value { Gives result (info_then_tracks octets.now info tracks) }
+    ensures positive { IfOk result (λ h. 0 < h.scale) }
+{
+    let scale = read_info(octets, info)?;
+    let tracks = read_tracks(alloc, octets, tracks)?;
+    Ok(Header { scale, tracks })
+}
+
+// Tracks stands before Info.
+fn read_tracks_first(
+    alloc: Global,
+    octets: &[u8],
+    info: Child,
+    tracks: Child,
+) -> Result<Header, FilmError>
+    requires info { LiesIn (length octets.now) info }
+    requires tracks { LiesIn (length octets.now) tracks }
+    ensures value { Gives result (tracks_then_info octets.now info tracks) }
+    ensures positive { IfOk result (λ h. 0 < h.scale) }
+{
+    let tracks = read_tracks(alloc, octets, tracks)?;
+    let scale = read_info(octets, info)?;
+    Ok(Header { scale, tracks })
+}
+
+/// Info and Tracks, which have to stand before the first Cluster.
+#[tactic(auto, unfolding(mc_walk::specs::Opening::header_of))]
+pub(crate) fn read_header(
+    alloc: Global,
+    octets: &[u8],
+    segment: Segment,
+) -> Result<Header, FilmError>
+    requires { segment.opening ≤ length octets.now }
+    ensures value { Gives result (header_of octets.now segment) }
+    ensures positive { IfOk result (λ h. 0 < h.scale) }
+{
+    let info = find_first(octets, segment, ids::INFO);
+    let tracks = find_first(octets, segment, ids::TRACKS);
+    match (info, tracks) {
+        (Some(info), Some(tracks)) => {
+            if info.place < tracks.place {
+                read_info_first(alloc, octets, info, tracks)
+            } else {
+                read_tracks_first(alloc, octets, info, tracks)
+            }
+        }
+        (Some(info), None) => {
+            read_info(octets, info)?;
+            Err(FilmError::Refused(Refused::NoTracks))
+        }
+        (None, tracks) => {
+            if let Some(tracks) = tracks {
+                read_tracks(alloc, octets, tracks)?;
+            }
+            Err(FilmError::Refused(Refused::NoInfo))
+        }
+    }
+}

@@ -1,0 +1,5 @@
+pub mod Moves
+pub mod Blocks
+pub mod Answers
+pub mod Walk
+pub mod Opening

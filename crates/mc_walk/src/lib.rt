@@ -1,0 +1,14 @@
+//! The walk over a Matroska film (RFC 9559): what the rules say at each place of it. It takes an
+//! element's head, or a block's octets, and gives what the walk does there; `specs/Walk` says so
+//! over the whole film's octets, `specs/Opening` what stands before the Clusters, and
+//! `specs/Parts` what stands from one mark to the next. The whole-file reader and a reader on
+//! demand share all of it.
+#![tactic(auto)]
+
+mod element;
+mod movement;
+mod plan;
+
+pub use element::{WalkError, block_element};
+pub use movement::{Move, Role, last_ending, move_at, settled};
+pub use plan::{Header, Plan, Segment, Step};

@@ -1,6 +1,5 @@
--- The first file of a name, by its place.
-use Rattle.std.proofs.Common.{◌≡◌, ℕ, zero, suc, ◌+◌, ◌^◌, ◌≤◌, nat_lt, Bool, true, false, cond, if◌then◌else◌, List, [], ◌∷◌, Option, Some, None, Ok, Err, IfOk, refl, arith, inl, inr, ◌⊎◌}
-use Rattle.std.specs.List.{find, position_from, slice_get}
+-- Opening a file by its place in a list.
+use Rattle.std.proofs.Common.{◌≡◌, ℕ, ◌+◌, ◌^◌, ◌≤◌, nat_lt, Bool, true, false, if◌then◌else◌, List, Option, Some, None, Ok, Err, IfOk, refl, arith}
 use Rattle.std.specs.Str.{bytes_eq}
 use Rattle.std.proofs.lemmas.Slice.Eq.{bytes_eq-Decides}
 use Rattle.mc_outside.specs.declared.named.NamedFile.{NamedFile}
@@ -8,64 +7,16 @@ use Rattle.mc_outside.specs.declared.shelf.FileNo.{FileNo}
 use Rattle.mc_outside.specs.declared.shelf.ShelfError.TheVariants.{NoMemory}
 use Rattle.mc_outside.specs.Shelf.{Opens, Lacks, OpenCause}
 use Rattle.mc_outside.specs.Named.{name_of, file_of, name_at, place_of, numbered}
-
-record Found {X : Type 0} (p : X → Bool) (xs : List X) (k : ℕ) : Type 0 where
-  pub item : X
-  pub at : slice_get xs k ≡ Some item
-  pub first : find p xs ≡ Some item
-  pub passes : p item ≡ true
-
-some_is : (a b : ℕ) → Some a ≡ Some b → a ≡ b
-some_is a b e = cc
-
-chosen : {A : Type 0} (b : Bool) (x y z : A) → cond b x y ≡ z → ((b ≡ true) × (x ≡ z)) ⊎ ((b ≡ false) × (y ≡ z))
-chosen true x y z e = inl (refl, e)
-chosen false x y z e = inr (refl, e)
-
-some_none : (j : ℕ) → Some j ≡ None → ⊥
-some_none j e = cc
-
-later : {X : Type 0} (p : X → Bool) (i j : ℕ) (xs : List X) → position_from p j xs ≡ Some i → j ≤ i
-later p i j [] e = absurd cc
-later p i j (x ∷ xs) e =
-    elim (chosen (p x) (Some j) (position_from p (j + 1) xs) (Some i) e) [
-      | inl h ↦ omega (arith, some_is j i h.1)
-      | inr h ↦ omega (arith, later p i (j + 1) xs h.1)
-    ]
-
-found : {X : Type 0} (p : X → Bool) (j k : ℕ) (xs : List X) → position_from p j xs ≡ Some (j + k) → Found p xs k
-found p j k [] e = absurd cc
-found p j zero (x ∷ xs) e =
-    elim (chosen (p x) (Some j) (position_from p (j + 1) xs) (Some (j + 0)) e) [
-      | inl h ↦ record { item = x; at = refl; first = rw h.0 refl; passes = h.0 }
-      | inr h ↦ absurd (omega (arith, later p (j + 0) (j + 1) xs h.1))
-    ]
-found p j (suc k) (x ∷ xs) e =
-    elim (chosen (p x) (Some j) (position_from p (j + 1) xs) (Some (j + suc k)) e) [
-      | inl h ↦ absurd (omega (arith, some_is j (j + suc k) h.1))
-      | inr h ↦
-          let on : j + suc k ≡ (j + 1) + k = omega arith in
-          let f = found p (j + 1) k xs (rw on at h.1) in
-          record { item = f.item; at = f.at; first = rw h.0 f.first; passes = f.passes }
-    ]
-
-none : {X : Type 0} (p : X → Bool) (j : ℕ) (xs : List X) → position_from p j xs ≡ None → find p xs ≡ None
-none p j [] e = refl
-none p j (x ∷ xs) e =
-    elim (chosen (p x) (Some j) (position_from p (j + 1) xs) None e) [
-      | inl h ↦ absurd (some_none j h.1)
-      | inr h ↦ rw h.0 (none p (j + 1) xs h.1)
-    ]
+use Rattle.mc_outside.proofs.Found.{found_at, find_none}
 
 pub opens : (files : List NamedFile) (name : List ℕ) (i : ℕ) → place_of files name ≡ Some i → Opens (Some (file_of files)) (name_at files) name i
 opens files name i e =
-    let zero_on : i ≡ 0 + i = omega arith in
-    let f = found (λ (f : NamedFile). bytes_eq (name_of f) name) 0 i files (rw zero_on at e) in
+    let f = found_at (λ (f : NamedFile). bytes_eq (name_of f) name) i files e in
     let same : name_of f.item ≡ name = (bytes_eq-Decides (name_of f.item) name).0 f.passes in
     (rw (f.at, same) refl, rw f.first tt)
 
 pub lacks : (files : List NamedFile) (name : List ℕ) → place_of files name ≡ None → Lacks (Some (file_of files)) name
-lacks files name e = rw (none (λ (f : NamedFile). bytes_eq (name_of f) name) 0 files e) refl
+lacks files name e = rw (find_none (λ (f : NamedFile). bytes_eq (name_of f) name) 0 files e) refl
 
 -- what the answer to opening a name says of the files
 at_number : (files : List NamedFile) (name : List ℕ) (i : ℕ) (b : Bool) → place_of files name ≡ Some i → IfOk (if b then Ok (record { 0 = i }) else Err NoMemory) (λ (n : FileNo). Opens (Some (file_of files)) (name_at files) name n.0)

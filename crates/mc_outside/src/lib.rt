@@ -12,9 +12,11 @@ mod memory;
 mod named;
 mod shelf;
 mod sink;
+mod spots;
 
 
-pub use memory::{CleanShelf};
+pub use memory::{CleanShelf, MemShelf};
 pub use named::{NamedFile, NamedFiles, NoMemory};
 pub use shelf::{Failed, FileNo, ReadFault, Shelf, ShelfError, read_full};
 pub use sink::{Sink, SinkError, write_full};
+pub use spots::Spots;

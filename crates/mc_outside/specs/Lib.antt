@@ -6,3 +6,4 @@ pub mod Short
 pub mod Spots
 pub mod CleanShelf
 pub mod MemShelf
+pub mod MemSink

@@ -7,16 +7,20 @@
 #![tactic(auto)]
 
 
+mod edge;
 mod listed;
 mod memory;
 mod named;
 mod shelf;
 mod sink;
 mod spots;
+mod texts;
 
 
+pub use edge::{FileShelf, StdSink};
 pub use memory::{CleanShelf, MemShelf};
 pub use named::{NamedFile, NamedFiles, NoMemory};
 pub use shelf::{Failed, FileNo, ReadFault, Shelf, ShelfError, read_full};
 pub use sink::{Sink, SinkError, write_full};
 pub use spots::Spots;
+pub use texts::{CleanSink, MemSink, Numbers};

@@ -1,9 +1,6 @@
 -- What a text in memory holds.
-use Rattle.std.specs.Prelude.{List, ℕ, Result, Ok, Err}
+use Rattle.std.specs.Prelude.{List, ℕ}
 use Rattle.mc_outside.specs.declared.texts.MemSink.{MemSink}
-use Rattle.mc_outside.specs.declared.sink.SinkError.{SinkError}
-use Rattle.mc_outside.specs.declared.sink.SinkError.TheVariants.{Failed, NoMemory}
-use Rattle.mc_outside.specs.Causes.{counted}
 
 -- the octets that were written
 abbrev pub text_of : MemSink → List ℕ
@@ -20,9 +17,3 @@ calls_of s = s.calls
 -- how many calls failed, as far as the counter goes
 abbrev pub faults_of : MemSink → ℕ
 faults_of s = s.faults
-
--- how many calls failed after one that answered so
-abbrev pub faults_after : Result ℕ SinkError → ℕ → ℕ
-faults_after (Ok taken) faults = faults
-faults_after (Err Failed) faults = counted faults
-faults_after (Err NoMemory) faults = faults

@@ -1,8 +1,8 @@
 -- What a shelf of files means.
-use Rattle.std.specs.Prelude.{◌≡◌, ℕ, ◌-◌, ◌^◌, ◌<◌, ◌≤◌, max, List, length, take, drop, Option, Some, None, IfSome, Result, IsErrOf}
+use Rattle.std.specs.Prelude.{◌≡◌, ℕ, ◌-◌, ◌^◌, ◌<◌, ◌≤◌, max, List, length, take, drop, Option, Some, None, IfSome, Result, Ok, Err, IsErrOf}
 use Rattle.mc_outside.specs.declared.shelf.ShelfError.{ShelfError}
-use Rattle.mc_outside.specs.declared.shelf.ShelfError.TheVariants.{NotFound, Failed}
-use Rattle.mc_outside.specs.Causes.{Rose}
+use Rattle.mc_outside.specs.declared.shelf.ShelfError.TheVariants.{NotFound, Failed, NoMemory}
+use Rattle.mc_outside.specs.Causes.{Rose, counted}
 
 -- The octets under each name.
 abbrev pub Files : Type 0
@@ -79,3 +79,15 @@ pub record KeepsOpen (files files' : Option Files) (opened opened' : Opened) (re
   pub same_files : files' ≡ files
   pub kept : KeepsOpened opened opened'
   pub same_reach : reach' ≡ reach
+
+-- how many calls failed after one that opened a file, where each failure counts
+abbrev pub faults_after_open : {T : Type 0} → Result T ShelfError → ℕ → ℕ
+faults_after_open (Ok file) faults = faults
+faults_after_open (Err NotFound) faults = faults
+faults_after_open (Err Failed) faults = counted faults
+faults_after_open (Err NoMemory) faults = faults
+
+-- how many calls failed after one that read, where each failure counts
+abbrev pub faults_after_read : {T E : Type 0} → Result T E → ℕ → ℕ
+faults_after_read (Ok count) faults = faults
+faults_after_read (Err e) faults = counted faults

@@ -1,5 +1,7 @@
 ghost use Rattle.std.specs.Prelude.{◌≡◌, ◌≤◌, ◌<◌, length, IfOk, IfSome};
-ghost use Rattle.mc_outside.specs.Shelf.{InBounds};
+ghost use Rattle.mc_outside.specs.Causes.{HasCause};
+ghost use Rattle.mc_outside.specs.Shelf.{InBounds, OpenCause, faults_after_open, faults_after_read};
+ghost use Rattle.mc_outside.specs.Sink.{Took, WriteCause, faults_after_write};
 
 use crate::shelf::{Failed, FileNo, Shelf, ShelfError};
 use crate::sink::{Sink, SinkError};
@@ -32,8 +34,39 @@ impl<'a, R: Files> FileShelf<'a, R> {
         }
     }
 
+    fn open(&mut self, name: &str) -> Result<FileNo, ShelfError>
+        ensures cause { OpenCause None name.now self.old.faults self.new.faults result }
+        ensures faults { self.new.faults ≡ faults_after_open result self.old.faults }
+    {
+        let number = u32::try_from(self.files.len());
+        match (number, fs::open(self.rt, name)) {
+            (Ok(number), Ok(file)) => match self.files.push(file) {
+                Ok(()) => Ok(FileNo(number)),
+                Err(_) => Err(ShelfError::NoMemory),
+            },
+            _ => {
+                self.faults = self.faults.saturating_add(1);
+                Err(ShelfError::Failed)
+            }
+        }
+    }
+
+    fn read(&mut self, file: FileNo, pos: u64, buf: &mut [u8]) -> Result<usize, Failed>
+        ensures bounds { IfOk result (λ n. InBounds pos buf.new n) }
+        ensures cause { HasCause self.old.faults self.new.faults result }
+        ensures faults { self.new.faults ≡ faults_after_read result self.old.faults }
+    {
+        match self.part(file, pos, buf) {
+            Some(count) => Ok(count),
+            None => {
+                self.faults = self.faults.saturating_add(1);
+                Err(Failed)
+            }
+        }
+    }
+
     // Reads some octets of an opened file. None: the system refused.
-    fn read(&mut self, file: FileNo, pos: u64, buf: &mut [u8]) -> Option<usize>
+    fn part(&mut self, file: FileNo, pos: u64, buf: &mut [u8]) -> Option<usize>
         ensures bounds { IfSome result (λ n. InBounds pos buf.new n) }
         ensures faults { self.new.faults ≡ self.old.faults }
     {
@@ -80,32 +113,13 @@ impl<R: Files> Shelf for FileShelf<'_, R> {
     /// Opens a path for reading. It never answers `NotFound`: a path that cannot be opened is a
     /// fault.
     fn open_file(&mut self, name: &str) -> Result<FileNo, ShelfError> {
-        let Ok(number) = u32::try_from(self.files.len()) else {
-            self.faults = self.faults.saturating_add(1);
-            return Err(ShelfError::Failed);
-        };
-        match fs::open(self.rt, name) {
-            Ok(file) => match self.files.push(file) {
-                Ok(()) => Ok(FileNo(number)),
-                Err(_) => Err(ShelfError::NoMemory),
-            },
-            Err(_) => {
-                self.faults = self.faults.saturating_add(1);
-                Err(ShelfError::Failed)
-            }
-        }
+        self.open(name)
     }
 
     /// One read of the system, begun again where it is interrupted. A number that this shelf
     /// did not give is a fault.
     fn read_at(&mut self, file: FileNo, pos: u64, buf: &mut [u8]) -> Result<usize, Failed> {
-        match self.read(file, pos, buf) {
-            Some(count) => Ok(count),
-            None => {
-                self.faults = self.faults.saturating_add(1);
-                Err(Failed)
-            }
-        }
+        self.read(file, pos, buf)
     }
 
     fn fault_count(&self) -> u64 {
@@ -129,6 +143,20 @@ impl<W: Write> StdSink<W> {
         ensures { ⟦<StdSink<W> as Sink>⟧.faults result ≡ 0 }
     {
         StdSink { out, faults: 0 }
+    }
+
+    fn put(&mut self, piece: &[u8]) -> Result<usize, SinkError>
+        ensures took { IfOk result (λ n. Took piece.now n) }
+        ensures cause { WriteCause self.old.faults self.new.faults result }
+        ensures faults { self.new.faults ≡ faults_after_write result self.old.faults }
+    {
+        match write_some(&mut self.out, piece) {
+            Ok(count) if count > 0 || piece.is_empty() => Ok(count),
+            _ => {
+                self.faults = self.faults.saturating_add(1);
+                Err(SinkError::Failed)
+            }
+        }
     }
 }
 
@@ -154,12 +182,6 @@ impl<W: Write> Sink for StdSink<W> {
 
     /// One write to the system, begun again where it is interrupted.
     fn write(&mut self, piece: &[u8]) -> Result<usize, SinkError> {
-        match write_some(&mut self.out, piece) {
-            Ok(count) if count > 0 || piece.is_empty() => Ok(count),
-            _ => {
-                self.faults = self.faults.saturating_add(1);
-                Err(SinkError::Failed)
-            }
-        }
+        self.put(piece)
     }
 }

@@ -1,6 +1,6 @@
-ghost use Rattle.std.specs.Prelude.{◌≡◌, ◌+◌, ◌-◌, ◌^◌, length, min, max, Some, Ok, IsErr, IfOk, MatchBool, MatchResult};
-ghost use Rattle.mc_outside.specs.Causes.{HasCause, counted};
-ghost use Rattle.mc_outside.specs.Shelf.{KeepsOpen, KeepsRead, Opens, OpenCause, Reads, InBounds, content};
+ghost use Rattle.std.specs.Prelude.{◌≡◌, ◌+◌, ◌-◌, ◌^◌, length, min, max, Some, Ok, IsErr, IfOk, MatchBool};
+ghost use Rattle.mc_outside.specs.Causes.{HasCause};
+ghost use Rattle.mc_outside.specs.Shelf.{KeepsOpen, KeepsRead, Opens, OpenCause, Reads, InBounds, content, faults_after_read};
 ghost use Rattle.mc_outside.specs.Named.{file_of, name_at, place_of, numbered, part_of};
 ghost use Rattle.mc_outside.specs.Spots.{meets_spot, left_of};
 
@@ -137,8 +137,7 @@ impl Shelf for MemShelf {
         ensures cause { HasCause (faults_of self.old) (faults_of self.new) result }
         ensures answer { MatchBool (meets_spot file.0 pos (length buf.old) (spots_of self.old)) (IsErr result)
             (result ≡ Ok (length (part_of (content (Some (told_by self.old)) (opened_by self.old) file.0) pos (length buf.old)))) }
-        ensures faults { MatchResult result (λ n. faults_of self.new ≡ faults_of self.old)
-            (λ e. faults_of self.new ≡ counted (faults_of self.old)) }
+        ensures faults { faults_of self.new ≡ faults_after_read result (faults_of self.old) }
         ensures spent { spots_of self.new ≡ left_of file.0 pos (length buf.old) (spots_of self.old) }
         ensures files { files_of self.new ≡ files_of self.old }
         ensures reach { reach_of self.new ≡ max (reach_of self.old) (min (pos + length buf.old) (2 ^ 64 - 1)) }

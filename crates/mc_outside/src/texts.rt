@@ -1,6 +1,6 @@
 ghost use Rattle.std.specs.Prelude.{◌≡◌, ◌+◌, ◌++◌, ◌↔◌, length, take, [], Some, Err, IfOk, IfErr, OnErr, Contains};
 ghost use Rattle.mc_outside.specs.Causes.{counted};
-ghost use Rattle.mc_outside.specs.Sink.{Grows, WriteCause, Took};
+ghost use Rattle.mc_outside.specs.Sink.{WriteCause, faults_after_write};
 
 use crate::sink::{Sink, SinkError};
 use sqlite_items::Items;
@@ -101,7 +101,7 @@ impl MemSink {
 
 impl Sink for MemSink {
     ghost use Rattle.std.specs.Prelude.{Some};
-    ghost use Rattle.mc_outside.specs.MemSink.{text_of, bad_of, calls_of, faults_of, faults_after};
+    ghost use Rattle.mc_outside.specs.MemSink.{text_of, bad_of, calls_of, faults_of};
 
     ghost text = { λ s. Some (text_of s) };
 
@@ -115,7 +115,7 @@ impl Sink for MemSink {
         ensures refused { OnErr result (text_of self.new ≡ text_of self.old) }
         ensures cause { WriteCause (faults_of self.old) (faults_of self.new) result }
         ensures failed { (result ≡ Err SinkError.Failed) ↔ Contains (bad_of self.old) (calls_of self.old) }
-        ensures faults { faults_of self.new ≡ faults_after result (faults_of self.old) }
+        ensures faults { faults_of self.new ≡ faults_after_write result (faults_of self.old) }
         ensures calls { calls_of self.new ≡ counted (calls_of self.old) }
         ensures bad { bad_of self.new ≡ bad_of self.old }
     {

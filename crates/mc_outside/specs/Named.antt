@@ -1,5 +1,5 @@
 -- Files in memory, in a list: a name is that of the first file which has it.
-use Rattle.std.specs.Prelude.{ℕ, ◌^◌, ◌++◌, nat_lt, if◌then◌else◌, List, [], Option, Some, None, Result, Ok, Err, take, drop, slice_get, option_map, find, string_bytes}
+use Rattle.std.specs.Prelude.{ℕ, ◌^◌, nat_lt, if◌then◌else◌, List, [], Option, Some, None, Result, Ok, Err, take, drop, slice_get, option_map, find, string_bytes}
 use Rattle.std.specs.List.{position_from}
 use Rattle.std.specs.Str.{bytes_eq}
 use Rattle.mc_outside.specs.declared.named.NamedFile.{NamedFile}

@@ -85,7 +85,7 @@ impl<'a, R: Files> FileShelf<'a, R> {
 }
 
 // One read, begun again as often as it is interrupted.
-fn read_some<R: Read>(reader: &mut R, buf: &mut [u8]) -> IoResult<usize>
+pub(crate) fn read_some<R: Read>(reader: &mut R, buf: &mut [u8]) -> IoResult<usize>
     ensures { IfOk result (λ n. n ≤ length buf.new) }
 {
     for _ in 0..u64::MAX {

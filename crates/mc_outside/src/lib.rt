@@ -6,7 +6,6 @@
 //! `FileShelf` and `StdSink` are the trusted edge over the system, and tell nothing.
 #![tactic(auto)]
 
-
 mod edge;
 mod listed;
 mod memory;
@@ -14,8 +13,9 @@ mod named;
 mod shelf;
 mod sink;
 mod spots;
+#[cfg(test)]
+mod tests;
 mod texts;
-
 
 pub use edge::{FileShelf, StdSink};
 pub use memory::{CleanShelf, MemShelf};

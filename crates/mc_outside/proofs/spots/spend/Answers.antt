@@ -1,7 +1,6 @@
-use Rattle.std.proofs.Common.{◌≡◌, Some, None, List, sym, ◌∙◌, ap, arith, length}
+use Rattle.std.proofs.Common.{sym, ◌∙◌, arith}
 use Rattle.std.proofs.lemmas.List.Edits.{length-remove}
-use Rattle.std.specs.List.{position_from}
-use Rattle.mc_outside.specs.Spots.{is_asked, meets_spot, left_of, Spot}
+use Rattle.mc_outside.specs.Spots.{is_asked, meets_spot}
 use Rattle.mc_outside.proofs.Found.{found_at, any_none, rest_none, any_more, any_end}
 use Rattle.mc_outside.proofs.spots.spend.Goals as goal
 

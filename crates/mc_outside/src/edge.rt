@@ -1,0 +1,187 @@
+ghost use Rattle.std.specs.Prelude.{◌≡◌, ◌≤◌, ◌<◌, length, IfOk, IfSome};
+ghost use Rattle.mc_outside.specs.Causes.{HasCause};
+ghost use Rattle.mc_outside.specs.Shelf.{InBounds, OpenCause, faults_after_open, faults_after_read};
+ghost use Rattle.mc_outside.specs.Sink.{Took, WriteCause, faults_after_write};
+
+use crate::shelf::{Failed, FileNo, Shelf, ShelfError};
+use crate::sink::{Sink, SinkError};
+use std::alloc::Global;
+use std::fs;
+use std::io::{Error, ErrorKind, Read, Result as IoResult, Seek, SeekFrom, Write};
+use std::rt::Files;
+
+/// The end of what is read of a file: no octet at or past this place is given.
+const END: u64 = 0x7fff_ffff_ffff_ffff;
+
+/// The files of the system, by their paths. It tells no content, and is trusted to give that of
+/// the files. Each call that the system refuses counts a fault, as far as a `u64` counts.
+#[derive(Drop)]
+pub struct FileShelf<'a, R: Files> {
+    rt: &'a R,
+    files: Vec<R::File>,
+    faults: u64,
+}
+
+impl<'a, R: Files> FileShelf<'a, R> {
+    /// A shelf on which no file is open yet. It takes memory as files are opened.
+    pub fn new(rt: &'a R, alloc: Global) -> FileShelf<'a, R>
+        ensures { ⟦<FileShelf<'a, R> as Shelf>⟧.faults result ≡ 0 }
+    {
+        FileShelf {
+            rt,
+            files: Vec::new(alloc),
+            faults: 0,
+        }
+    }
+
+    fn open(&mut self, name: &str) -> Result<FileNo, ShelfError>
+        ensures cause { OpenCause None name.now self.old.faults self.new.faults result }
+        ensures faults { self.new.faults ≡ faults_after_open result self.old.faults }
+    {
+        let number = u32::try_from(self.files.len());
+        match (number, fs::open(self.rt, name)) {
+            (Ok(number), Ok(file)) => match self.files.push(file) {
+                Ok(()) => Ok(FileNo(number)),
+                Err(_) => Err(ShelfError::NoMemory),
+            },
+            _ => {
+                self.faults = self.faults.saturating_add(1);
+                Err(ShelfError::Failed)
+            }
+        }
+    }
+
+    fn read(&mut self, file: FileNo, pos: u64, buf: &mut [u8]) -> Result<usize, Failed>
+        ensures bounds { IfOk result (λ n. InBounds pos buf.new n) }
+        ensures cause { HasCause self.old.faults self.new.faults result }
+        ensures faults { self.new.faults ≡ faults_after_read result self.old.faults }
+    {
+        match self.part(file, pos, buf) {
+            Some(count) => Ok(count),
+            None => {
+                self.faults = self.faults.saturating_add(1);
+                Err(Failed)
+            }
+        }
+    }
+
+    // Reads some octets of an opened file. None: the system refused.
+    fn part(&mut self, file: FileNo, pos: u64, buf: &mut [u8]) -> Option<usize>
+        ensures bounds { IfSome result (λ n. InBounds pos buf.new n) }
+        ensures faults { self.new.faults ≡ self.old.faults }
+    {
+        if pos >= END {
+            return Some(0);
+        }
+        let file = self.files.get_mut(file.0 as usize)?;
+        file.seek(SeekFrom::Start(pos)).ok()?;
+        let room = END - pos;
+        if (buf.len() as u64) <= room {
+            read_some(file, buf).ok()
+        } else {
+            read_some(file, &mut buf[..room as usize]).ok()
+        }
+    }
+}
+
+// One read, begun again as often as it is interrupted.
+pub(crate) fn read_some<R: Read>(reader: &mut R, buf: &mut [u8]) -> IoResult<usize>
+    ensures { IfOk result (λ n. n ≤ length buf.new) }
+{
+    for _ in 0..u64::MAX {
+        match reader.read(buf) {
+            Err(e) if e.kind() == ErrorKind::Interrupted => {}
+            answer => return answer,
+        }
+    }
+    Err(Error::from(ErrorKind::Interrupted))
+}
+
+impl<R: Files> Shelf for FileShelf<'_, R> {
+    ghost use Rattle.std.specs.Prelude.{None};
+
+    ghost files = { λ s. None };
+
+    ghost opened = { λ s k. None };
+
+    ghost faults = { λ s. s.faults };
+
+    ghost reach = { λ s. 0 };
+
+    ghost short = { λ s. tt };
+
+    /// Opens a path for reading. It never answers `NotFound`: a path that cannot be opened is a
+    /// fault.
+    fn open_file(&mut self, name: &str) -> Result<FileNo, ShelfError> {
+        self.open(name)
+    }
+
+    /// One read of the system, begun again where it is interrupted. A number that this shelf
+    /// did not give is a fault.
+    fn read_at(&mut self, file: FileNo, pos: u64, buf: &mut [u8]) -> Result<usize, Failed> {
+        self.read(file, pos, buf)
+    }
+
+    fn fault_count(&self) -> u64 {
+        self.faults
+    }
+}
+
+/// A writer of the system, such as standard output. It tells no text, and is trusted to write
+/// what it takes: a writer with a buffer of its own is to be flushed after the last write. Each
+/// write that fails, or takes nothing of a piece that is not empty, counts a fault, as far as a
+/// `u64` counts.
+#[derive(Drop)]
+pub struct StdSink<W: Write> {
+    out: W,
+    faults: u64,
+}
+
+impl<W: Write> StdSink<W> {
+    /// A sink over this writer. It takes no memory.
+    pub fn new(out: W) -> StdSink<W>
+        ensures { ⟦<StdSink<W> as Sink>⟧.faults result ≡ 0 }
+    {
+        StdSink { out, faults: 0 }
+    }
+
+    fn put(&mut self, piece: &[u8]) -> Result<usize, SinkError>
+        ensures took { IfOk result (λ n. Took piece.now n) }
+        ensures cause { WriteCause self.old.faults self.new.faults result }
+        ensures faults { self.new.faults ≡ faults_after_write result self.old.faults }
+    {
+        match write_some(&mut self.out, piece) {
+            Ok(count) if count > 0 || piece.is_empty() => Ok(count),
+            _ => {
+                self.faults = self.faults.saturating_add(1);
+                Err(SinkError::Failed)
+            }
+        }
+    }
+}
+
+// One write, begun again as often as it is interrupted.
+fn write_some<W: Write>(writer: &mut W, piece: &[u8]) -> IoResult<usize>
+    ensures { IfOk result (λ n. n ≤ length piece.now) }
+{
+    for _ in 0..u64::MAX {
+        match writer.write(piece) {
+            Err(e) if e.kind() == ErrorKind::Interrupted => {}
+            answer => return answer,
+        }
+    }
+    Err(Error::from(ErrorKind::Interrupted))
+}
+
+impl<W: Write> Sink for StdSink<W> {
+    ghost use Rattle.std.specs.Prelude.{None};
+
+    ghost text = { λ s. None };
+
+    ghost faults = { λ s. s.faults };
+
+    /// One write to the system, begun again where it is interrupted.
+    fn write(&mut self, piece: &[u8]) -> Result<usize, SinkError> {
+        self.put(piece)
+    }
+}

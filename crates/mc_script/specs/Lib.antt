@@ -1,1 +1,3 @@
 pub mod Transcript
+pub mod Words
+pub mod Exits

@@ -3,6 +3,10 @@
 //! record (`specs/Transcript`), and a status for each way to end.
 #![tactic(auto)]
 
+mod exit;
 mod transcript;
+mod words;
 
+pub use exit::{Exit, RunReport, ShelfCause};
 pub use transcript::demux_text;
+pub use words::read_words;

@@ -104,8 +104,8 @@ fn push_line(text: &mut String, entry: &DemuxRecord) -> Result<(), NoMemory>
 }
 
 /// The text of a demuxer's journal: for each record its line, ended by LF, or nothing.
-pub fn demux_text(alloc: Global, h: &DemuxJournal) -> Result<String, NoMemory>
-    ensures { IfOk result (λ s. string_bytes s ≡ transcript h.now) }
+pub fn demux_text(alloc: Global, h: &DemuxJournal) -> Result<Text, NoMemory>
+    ensures { IfOk result (λ s. s ≡ transcript h.now) }
 {
     let mut text = String::new(alloc);
     for entry in h.as_slice() {

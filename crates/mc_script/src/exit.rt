@@ -1,0 +1,69 @@
+ghost use Rattle.std.specs.Prelude.{◌≡◌};
+ghost use Rattle.mc_script.specs.Exits.{status_of};
+
+use mc_journal::DemuxJournal;
+use mc_tracks::Refused;
+use std::fmt;
+
+/// Why a file was not read.
+#[derive(Clone, Copy, Debug, PartialEq, Eq)]
+pub enum ShelfCause {
+    /// The shelf's count of faults rose between the command's start and its end.
+    Rose { before: u64, after: u64 },
+    /// No file has the name that is the word of this number, counted from 0.
+    NoFile { word: u32 },
+}
+
+/// How a command ended.
+#[derive(Clone, Copy, Debug, PartialEq, Eq)]
+pub enum Exit {
+    Done,
+    /// Memory was wanting.
+    NoMemory,
+    /// The words are not in the line's grammar.
+    Usage,
+    /// A file could not be read.
+    Shelf(ShelfCause),
+    /// The text could not be written.
+    Sink,
+    /// The film is refused for what stands before its Clusters.
+    File(Refused),
+}
+
+impl Exit {
+    /// The status with which the program ends. It takes no memory.
+    pub fn status(&self) -> u8
+        ensures { result ≡ status_of self.now }
+    {
+        match self {
+            Exit::Done => 0,
+            Exit::NoMemory => 1,
+            Exit::Usage => 2,
+            Exit::Shelf(_) => 3,
+            Exit::Sink => 4,
+            Exit::File(_) => 5,
+        }
+    }
+}
+
+/// How a command ended, and what happened in its demuxer.
+#[derive(Drop)]
+pub struct RunReport {
+    pub exit: Exit,
+    pub hd: DemuxJournal,
+}
+
+/// The line that the program prints on standard error, without its end; nothing for `Done`.
+impl fmt::Display for Exit {
+    fn fmt<W: fmt::Write>(&self, f: &mut fmt::Formatter<W>) -> fmt::Result {
+        match self {
+            Exit::Done => Ok(()),
+            Exit::NoMemory => f.write_str("mcplay: out of memory"),
+            Exit::Usage => f.write_str("mcplay: usage: mcplay run FILE"),
+            Exit::Shelf(_) => f.write_str("mcplay: cannot read"),
+            Exit::Sink => f.write_str("mcplay: cannot write"),
+            Exit::File(Refused::Broken(at)) => write!(f, "mcplay: file refused: Broken {at}"),
+            Exit::File(refused) => write!(f, "mcplay: file refused: {refused:?}"),
+        }
+    }
+}

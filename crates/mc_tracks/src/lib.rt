@@ -1,0 +1,13 @@
+//! Reads what stands before the packets of a Matroska film (RFC 9559): the EBML header, Info and
+//! Tracks. It takes the octets of each and gives the scale and the list of tracks that
+//! `specs/Header` says they stand for, or the one refusal.
+#![tactic(auto)]
+
+pub mod ids;
+mod children;
+mod refused;
+mod track;
+
+pub use children::{Child, Master};
+pub use refused::{Refused, TracksError};
+pub use track::Track;

@@ -5,9 +5,14 @@
 
 pub mod ids;
 mod children;
+mod fields;
+mod header;
+mod info;
 mod refused;
 mod track;
 
 pub use children::{Child, Master};
+pub use header::parse_ebml_header;
+pub use info::parse_info;
 pub use refused::{Refused, TracksError};
 pub use track::Track;

@@ -8,7 +8,7 @@ use Rattle.mc_tracks.specs.declared.track.Track.{Track}
 
 -- the track of a number
 abbrev pub numbered : ℕ → List Track → Option Track
-numbered n tracks = find (λ (t : Track). t.no == n) tracks
+numbered n tracks = find (λ (t : Track). n == t.no) tracks
 
 -- no two tracks have one number
 abbrev pub HaveDistinctNumbers : List Track → Type 0
@@ -30,7 +30,7 @@ track_of_kind kind id tracks = if id == 0 then None else slice_get (all_of_kind 
 
 -- whether a number is a known track's: it is listed and its blocks are not encoded
 abbrev pub is_known : List Track → ℕ → Bool
-is_known tracks n = is_some (find (λ (t : Track). t.no == n && not t.encoded) tracks)
+is_known tracks n = is_some (find (λ (t : Track). n == t.no && not t.encoded) tracks)
 
 abbrev pub or_else : Option Track → Option Track → Option Track
 or_else (Some t) other = Some t

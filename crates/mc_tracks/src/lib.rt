@@ -8,11 +8,13 @@ mod children;
 mod fields;
 mod header;
 mod info;
+mod list;
 mod refused;
 mod track;
 
 pub use children::{Child, Master};
 pub use header::parse_ebml_header;
 pub use info::parse_info;
+pub use list::TrackList;
 pub use refused::{Refused, TracksError};
 pub use track::Track;

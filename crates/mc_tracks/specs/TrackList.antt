@@ -1,5 +1,5 @@
 -- What is asked of a list of tracks.
-use Rattle.std.specs.Prelude.{ℕ, ◌-◌, Bool, true, false, not, ◌&&◌, ◌==◌, nat_eq, is_some, if◌then◌else◌, List, [], ◌∷◌, map, filter, find, slice_get, Option, Some, None, option_map}
+use Rattle.std.specs.Prelude.{ℕ, zero, suc, Bool, true, false, not, ◌&&◌, ◌==◌, nat_eq, is_some, if◌then◌else◌, List, [], ◌∷◌, map, filter, find, slice_get, Option, Some, None, option_map}
 use Rattle.std.specs.List.{IsDistinct}
 use Rattle.mc_packet.specs.declared.choice.Kind.{Kind}
 use Rattle.mc_packet.specs.declared.choice.Kind.TheVariants.{Video, Audio, Sub}
@@ -26,7 +26,8 @@ all_of_kind kind tracks = filter (λ (t : Track). is_of kind t.kind) tracks
 
 -- the one of this place among the tracks of its kind, which are counted from 1
 abbrev pub track_of_kind : Kind → ℕ → List Track → Option Track
-track_of_kind kind id tracks = if id == 0 then None else slice_get (all_of_kind kind tracks) (id - 1)
+track_of_kind kind zero tracks = None
+track_of_kind kind (suc id) tracks = slice_get (all_of_kind kind tracks) id
 
 -- whether a number is a known track's: it is listed and its blocks are not encoded
 abbrev pub is_known : List Track → ℕ → Bool

@@ -3,6 +3,7 @@
 //! `specs/Header` says they stand for, or the one refusal.
 #![tactic(auto)]
 
+mod choice;
 pub mod ids;
 mod children;
 mod fields;
@@ -12,6 +13,7 @@ mod list;
 mod refused;
 mod track;
 
+pub use choice::default_choice;
 pub use children::{Child, Master};
 pub use header::parse_ebml_header;
 pub use info::parse_info;

@@ -9,7 +9,7 @@ use std::alloc::Global;
 use std::marker::Model;
 
 /// The listed tracks of a film, in the order of their TrackEntries, each under a number of its own.
-#[derive(Drop)]
+#[derive(Debug, Drop)]
 pub struct TrackList {
     by_number: IndexMap<TrackNo, Track>,
 }
@@ -68,4 +68,39 @@ impl TrackList {
         self.by_number.insert(number, track)?;
         Ok(())
     }
+
+    /// The `id`-th track of a kind in the order of the list, counted from 1.
+    pub fn of_kind(&self, kind: Kind, id: u32) -> Option<&Track>
+        ensures { option_copied result ≡ track_of_kind kind id self.now }
+    {
+        let mut left = id;
+        for track in self.as_slice() {
+            if is_of(kind, track.kind) {
+                match left {
+                    0 => return None,
+                    1 => return Some(track),
+                    _ => left -= 1,
+                }
+            }
+        }
+        None
+    }
+
+    /// An equal list.
+    pub fn copy(&self) -> Result<TrackList, NoMemory>
+        ensures { IfOk result (λ l. l ≡ self.now) }
+    {
+        let mut copied = TrackList::new(*self.by_number.allocator());
+        for track in self.as_slice() {
+            copied.push(track.copy()?)?;
+        }
+        Ok(copied)
+    }
+}
+
+// Whether two kinds are the same.
+pub(crate) fn is_of(kind: Kind, other: Kind) -> bool
+    ensures { result ≡ is_of kind other }
+{
+    kind == other
 }

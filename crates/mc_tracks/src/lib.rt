@@ -6,12 +6,14 @@
 mod choice;
 pub mod ids;
 mod children;
+mod entry;
 mod fields;
 mod header;
 mod info;
 mod list;
 mod refused;
 mod track;
+mod tracks;
 
 pub use choice::default_choice;
 pub use children::{Child, Master};
@@ -20,3 +22,4 @@ pub use info::parse_info;
 pub use list::TrackList;
 pub use refused::{Refused, TracksError};
 pub use track::Track;
+pub use tracks::parse_tracks;

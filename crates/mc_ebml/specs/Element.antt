@@ -1,12 +1,14 @@
 -- The parts of an element (RFC 8794): its ID, its data size, and what its body stands for.
-use Rattle.std.specs.Prelude.{ℕ, ◌+◌, ◌-◌, ◌*◌, ◌%◌, ◌^◌, ◌<◌, nat_lt, nat_le, ◌==◌, if◌then◌else◌, List, [], ◌∷◌, length, take, drop, Result, Ok, Err}
+use Rattle.std.specs.Prelude.{ℕ, ◌+◌, ◌-◌, ◌*◌, ◌%◌, ◌^◌, ◌<◌, nat_lt, nat_le, ◌==◌, if◌then◌else◌, List, [], ◌∷◌, length, drop, Result, Ok, Err}
+use Rattle.std.specs.List.{before_first}
+use Rattle.std.specs.Str.{is_utf8}
 use Rattle.byteorder.specs.Endian.{big_number}
 use Rattle.mc_ebml.specs.declared.read.Size.{Size}
 use Rattle.mc_ebml.specs.declared.read.Size.TheVariants.{Known, Unknown}
 use Rattle.mc_ebml.specs.declared.read.Head.{Head}
 use Rattle.mc_ebml.specs.declared.read.Coded.{Coded}
 use Rattle.mc_ebml.specs.declared.read.EbmlError.{EbmlError}
-use Rattle.mc_ebml.specs.declared.read.EbmlError.TheVariants.{Short, BadId, BadSize, BadUint}
+use Rattle.mc_ebml.specs.declared.read.EbmlError.TheVariants.{Short, BadId, BadSize, BadUint, BadText}
 
 infixl 10 ◌>>=◌
 abbrev pub ◌>>=◌ : {A B : Type 0} → Result A EbmlError → (A → Result B EbmlError) → Result B EbmlError
@@ -58,6 +60,14 @@ head_at bytes at = do
 -- an unsigned integer, the highest octet first; without an octet it is 0
 unfoldable pub uint_of : List ℕ → Result ℕ EbmlError
 uint_of body = if nat_lt 8 (length body) then Err BadUint else Ok (big_number (length body) body)
+
+-- octets that are UTF-8 throughout
+abbrev pub whole_text : List ℕ → Result (List ℕ) EbmlError
+whole_text octets = if is_utf8 octets then Ok octets else Err BadText
+
+-- a text ends before its first zero octet
+unfoldable pub text_of : List ℕ → Result (List ℕ) EbmlError
+text_of body = whole_text (before_first (λ b. b == 0) body)
 
 -- a known size has seven octets at most
 abbrev pub IsSmall : Size → Type 0

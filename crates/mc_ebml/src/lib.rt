@@ -6,5 +6,5 @@
 mod read;
 
 pub use read::{
-    Coded, EbmlError, Head, Size, read_coded, read_head, read_id, read_size, read_uint,
+    Coded, EbmlError, Head, Size, read_coded, read_head, read_id, read_size, read_text, read_uint,
 };

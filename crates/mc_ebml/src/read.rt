@@ -1,5 +1,6 @@
-ghost use Rattle.std.specs.Prelude.{◌≡◌, ◌+◌, ◌-◌, ◌*◌, ◌%◌, ◌^◌, ◌<◌, ◌≤◌, length, IfOk};
-ghost use Rattle.mc_ebml.specs.Element.{width, size_of, id_at, coded_at, size_at, head_at, uint_of, IsSmall};
+ghost use Rattle.std.specs.Prelude.{◌≡◌, ◌+◌, ◌-◌, ◌*◌, ◌%◌, ◌^◌, ◌<◌, ◌≤◌, length, IfOk, MatchResult, position, ◌==◌, Ok, Err};
+ghost use Rattle.std.specs.List.{before_first, position_or_len};
+ghost use Rattle.mc_ebml.specs.Element.{width, size_of, id_at, coded_at, size_at, head_at, uint_of, text_of, whole_text, IsSmall};
 
 use byteorder::{BigEndian, ByteOrder};
 
@@ -192,5 +193,48 @@ pub fn read_uint(body: &[u8]) -> Result<u64, EbmlError>
         0 => Ok(0),
         width @ 1..=8 => Ok(BigEndian::read_uint(body, width)),
         _ => Err(EbmlError::BadUint),
+    }
+}
+
+/// A text (RFC 8794, sections 7.4 and 7.5): what stands before the first zero octet.
+///
+/// `BadText` exactly where that part is not UTF-8.
+#[tactic(auto, unfolding(crate::specs::Element::text_of))]
+pub fn read_text(body: &[u8]) -> Result<&str, EbmlError>
+    ensures { MatchResult result (λ s. text_of body.now ≡ Ok s.now) (λ e. text_of body.now ≡ Err e) }
+{
+    checked_text(before_zero(body))
+}
+
+// What stands before the first zero octet, or all where there is none.
+fn before_zero(body: &[u8]) -> &[u8]
+    ensures { result.now ≡ before_first (λ b. b == 0) body.now }
+{
+    body.split_at(zero_place(body)).0
+}
+
+// The place of the first zero octet, or the end.
+fn zero_place(body: &[u8]) -> usize
+    ensures value { result ≡ position_or_len (λ b. b == 0) body.now }
+    ensures within { result ≤ length body.now }
+{
+    first_zero(body).unwrap_or(body.len())
+}
+
+// The place of the first zero octet.
+fn first_zero(body: &[u8]) -> Option<usize>
+    ensures { result ≡ position (λ b. b == 0) body.now }
+{
+    body.iter().position(|b| *b == 0)
+}
+
+// The octets as a text.
+#[tactic(auto, using(crate::proofs::Texts::as_text))]
+fn checked_text(octets: &[u8]) -> Result<&str, EbmlError>
+    ensures { MatchResult result (λ s. whole_text octets.now ≡ Ok s.now) (λ e. whole_text octets.now ≡ Err e) }
+{
+    match std::str::from_utf8(octets) {
+        Ok(text) => Ok(text),
+        Err(_) => Err(EbmlError::BadText),
     }
 }

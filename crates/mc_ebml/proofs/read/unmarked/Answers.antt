@@ -1,4 +1,4 @@
-use Rattle.std.proofs.Common.{◌+◌, ◌<◌, arith}
+use Rattle.std.proofs.Common.{◌+◌, arith}
 use Rattle.std.proofs.Math.Nat.{mod-lt}
 use Rattle.mc_ebml.proofs.read.unmarked.Goals as goal
 

@@ -1,0 +1,4 @@
+pub mod Walk
+pub mod Numbers
+pub mod Counted
+pub mod Listed

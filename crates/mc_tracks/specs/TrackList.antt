@@ -1,0 +1,52 @@
+-- What is asked of a list of tracks.
+use Rattle.std.specs.Prelude.{ℕ, zero, suc, Bool, true, false, not, ◌&&◌, ◌==◌, nat_eq, is_some, if◌then◌else◌, List, [], ◌∷◌, map, filter, find, slice_get, Option, Some, None, option_map}
+use Rattle.std.specs.List.{IsDistinct}
+use Rattle.mc_packet.specs.declared.choice.Kind.{Kind}
+use Rattle.mc_packet.specs.declared.choice.Kind.TheVariants.{Video, Audio, Sub}
+use Rattle.mc_packet.specs.declared.choice.Choice.{Choice}
+use Rattle.mc_tracks.specs.declared.track.Track.{Track}
+
+-- the track of a number
+abbrev pub numbered : ℕ → List Track → Option Track
+numbered n tracks = find (λ (t : Track). n == t.no) tracks
+
+-- no two tracks have one number
+abbrev pub HaveDistinctNumbers : List Track → Type 0
+HaveDistinctNumbers tracks = IsDistinct nat_eq (map (λ (t : Track). t.no) tracks)
+
+abbrev pub is_of : Kind → Kind → Bool
+is_of Video Video = true
+is_of Audio Audio = true
+is_of Sub Sub = true
+is_of _ _ = false
+
+-- the tracks of a kind, in the order of the list
+abbrev pub all_of_kind : Kind → List Track → List Track
+all_of_kind kind tracks = filter (λ (t : Track). is_of kind t.kind) tracks
+
+-- the one of this place among the tracks of its kind, which are counted from 1
+abbrev pub track_of_kind : Kind → ℕ → List Track → Option Track
+track_of_kind kind zero tracks = None
+track_of_kind kind (suc id) tracks = slice_get (all_of_kind kind tracks) id
+
+-- whether a number is a known track's: it is listed and its blocks are not encoded
+abbrev pub is_known : List Track → ℕ → Bool
+is_known tracks n = is_some (find (λ (t : Track). n == t.no && not t.encoded) tracks)
+
+abbrev pub or_else : Option Track → Option Track → Option Track
+or_else (Some t) other = Some t
+or_else None other = other
+
+-- the first track of a kind that is default and not encoded, else the first that is not encoded
+abbrev pub preferred : Kind → List Track → Option Track
+preferred kind tracks = or_else
+    (find (λ (t : Track). is_of kind t.kind && not t.encoded && t.default) tracks)
+    (find (λ (t : Track). is_of kind t.kind && not t.encoded) tracks)
+
+abbrev pub number_of : Option Track → Option ℕ
+number_of found = option_map (λ (t : Track). t.no) found
+
+-- what is played at first: video and audio, and no subtitle
+unfoldable pub default_choice_of : List Track → Choice
+default_choice_of tracks =
+    record { video = number_of (preferred Video tracks); audio = number_of (preferred Audio tracks); sub = None }

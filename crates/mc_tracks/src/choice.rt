@@ -1,0 +1,49 @@
+ghost use Rattle.std.specs.Prelude.{◌≡◌, ◌&&◌, not, find, option_map};
+ghost use Rattle.std.specs.Option.{option_copied};
+ghost use Rattle.mc_tracks.specs.declared.track.Track.{Track};
+ghost use Rattle.mc_tracks.specs.TrackList.{is_of, preferred, number_of, default_choice_of};
+
+use crate::list::{TrackList, is_of};
+use crate::track::Track;
+use mc_packet::{Choice, Kind, TrackNo};
+
+/// What is played at first: of video and of audio the first track that is default and not encoded,
+/// else the first that is not encoded; and no subtitle.
+#[tactic(auto, unfolding(crate::specs::TrackList::default_choice_of))]
+pub fn default_choice(list: &TrackList) -> Choice
+    ensures { result ≡ default_choice_of list.now }
+{
+    let tracks = list.as_slice();
+    Choice {
+        video: preferred(tracks, Kind::Video),
+        audio: preferred(tracks, Kind::Audio),
+        sub: None,
+    }
+}
+
+fn preferred(tracks: &[Track], kind: Kind) -> Option<TrackNo>
+    ensures { result ≡ number_of (preferred kind tracks.now) }
+{
+    match first_default(tracks, kind) {
+        Some(track) => Some(track.no),
+        None => first_readable(tracks, kind).map(|track| track.no),
+    }
+}
+
+// The first track of a kind that is default and not encoded.
+fn first_default(tracks: &[Track], kind: Kind) -> Option<&Track>
+    ensures { option_copied result ≡ find (λ (t : Track). is_of kind t.kind && not t.encoded && t.default) tracks.now }
+{
+    tracks
+        .iter()
+        .find(|track| is_of(kind, track.kind) && !track.encoded && track.default)
+}
+
+// The first track of a kind that is not encoded.
+fn first_readable(tracks: &[Track], kind: Kind) -> Option<&Track>
+    ensures { option_copied result ≡ find (λ (t : Track). is_of kind t.kind && not t.encoded) tracks.now }
+{
+    tracks
+        .iter()
+        .find(|track| is_of(kind, track.kind) && !track.encoded)
+}

@@ -3,6 +3,7 @@ ghost use Rattle.mc_script.specs.Transcript.{joined, place_text, payload_text, f
 
 use mc_journal::{DemuxJournal, DemuxRecord};
 use mc_packet::{Ending, Fault, NoMemory, Pos};
+use mc_value::Text;
 use std::alloc::Global;
 
 fn fault_name(fault: Fault) -> &'static str
@@ -111,5 +112,5 @@ pub fn demux_text(alloc: Global, h: &DemuxJournal) -> Result<Text, NoMemory>
     for entry in h.as_slice() {
         push_line(&mut text, entry)?;
     }
-    Ok(text)
+    Ok(Text::from_string(text))
 }

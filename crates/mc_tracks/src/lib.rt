@@ -16,7 +16,7 @@ mod track;
 mod tracks;
 
 pub use choice::default_choice;
-pub use children::{Child, Master};
+pub use children::{Child, Master, read_element};
 pub use header::parse_ebml_header;
 pub use info::parse_info;
 pub use list::TrackList;

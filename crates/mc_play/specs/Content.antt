@@ -1,5 +1,5 @@
 -- The octets of a named file, and why there are none.
-use Rattle.std.specs.Prelude.{◌≡◌, ℕ, ◌≤◌, List, take, drop, Option, Some, None, Result, IsErrOf}
+use Rattle.std.specs.Prelude.{◌≡◌, ℕ, ◌≤◌, Bool, true, false, List, length, take, drop, Option, Some, None, Result, IsErrOf}
 use Rattle.mc_outside.specs.Causes.{Rose}
 use Rattle.mc_outside.specs.Shelf.{Files, Lacks}
 use Rattle.mc_play.specs.declared.read.ReadError.{ReadError}
@@ -31,3 +31,13 @@ pub record FileCause {T : Type 0} (files : Option Files) (name : List ℕ) (befo
 abbrev pub IsPiece : Option (List ℕ) → ℕ → ℕ → List ℕ → Type 0
 IsPiece None from len octets = Unit {0}
 IsPiece (Some told) from len octets = octets ≡ take len (drop from told)
+
+-- told octets begin with these
+abbrev pub IsFrontOf : Option (List ℕ) → List ℕ → Type 0
+IsFrontOf None octets = Unit {0}
+IsFrontOf (Some told) octets = octets ≡ take (length octets) told
+
+-- where the last piece was full these are a front of the told octets, else all of them
+abbrev pub IsSoFar : Option (List ℕ) → List ℕ → Bool → Type 0
+IsSoFar told octets true = IsFrontOf told octets
+IsSoFar told octets false = IsContent told octets

@@ -1,7 +1,7 @@
 ghost use Rattle.std.specs.Prelude.{◌≡◌, ◌⊎◌, ◌≤◌, map, string_bytes, IfOk, IfErr, Option, []};
 ghost use Rattle.mc_film.specs.Film.{film_of};
 ghost use Rattle.mc_script.specs.Words.{file_word};
-ghost use Rattle.mc_play.specs.Run.{IsFilmOf, IsRefusal, Stopped, Reached, Wrote, Ends, Written};
+ghost use Rattle.mc_play.specs.Run.{IsFilmOf, IsRefusal, Stopped, Reached, Wrote, Ends, LegalRun, EndsRun, Written};
 
 use crate::journal::read_through;
 use crate::read::{ReadError, read_file};
@@ -81,6 +81,7 @@ fn write_out<K: Sink>(alloc: Global, hd: &DemuxJournal, out: &mut K) -> Exit
 /// the shelf's count of faults rose or it lacks the file; with `File` exactly where what stands
 /// before the film's Clusters is refused and nothing came before; with `Sink` only where the
 /// sink's count rose. A cut or damaged film is no fault: its ending is told.
+#[tactic(auto, using(crate::proofs::RunLaws::run_is_legal))]
 pub fn run<D: Shelf, K: Sink>(
     alloc: Global,
     words: &[String],
@@ -90,6 +91,8 @@ pub fn run<D: Shelf, K: Sink>(
     ensures ends { Ends (D.files shelf.old) (file_word (map string_bytes words.now)) (record { shelf_before = D.faults shelf.old; shelf_now = D.faults shelf.new; sink_before = K.faults out.old; sink_now = K.faults out.new }) result.hd result.exit }
     ensures journal { (result.hd ≡ []) ⊎ Reached (D.files shelf.old) (file_word (map string_bytes words.now)) result.hd }
     ensures written { Written (K.text out.old) (K.text out.new) result.hd result.exit }
+    ensures legal { LegalRun (D.files shelf.old) (file_word (map string_bytes words.now)) result.hd }
+    ensures ended { EndsRun (D.files shelf.old) (file_word (map string_bytes words.now)) result.hd result.exit }
 {
     match perform(alloc, words, shelf) {
         Ok(hd) => {

@@ -2,7 +2,7 @@ ghost use Rattle.std.specs.Prelude.{◌≡◌, ◌≤◌, ◌<◌, ◌+◌, ◌^
 ghost use Rattle.mc_play.specs.declared.read.ReadError.TheVariants.{NoMemory, Fault};
 ghost use Rattle.mc_outside.specs.Causes.{Rose, HasCause};
 ghost use Rattle.mc_outside.specs.Shelf.{content, Files, ReadsFull};
-ghost use Rattle.mc_play.specs.Content.{ReadCause, FileCause, IsContent, IsPiece, HasOctets};
+ghost use Rattle.mc_play.specs.Content.{ReadCause, FileCause, IsContent, IsPiece, IsFrontOf, IsSoFar, HasOctets};
 
 use mc_outside::{FileNo, ReadFault, Shelf, ShelfError, read_full};
 use std::alloc::{AllocError, Global};
@@ -47,10 +47,13 @@ fn find_bound<S: Shelf>(shelf: &mut S, file: FileNo) -> Result<u64, ReadFault>
     ensures cause { HasCause (S.faults shelf.old) (S.faults shelf.new) result }
     ensures files { S.files shelf.new ≡ S.files shelf.old }
     ensures opened { S.opened shelf.new ≡ S.opened shelf.old }
-    ensures small { IfOk result (λ n. n < 2 ^ 63) }
+    ensures small { IfOk result (λ n. n ≤ 2 ^ 62) }
 {
     let mut bound = 1u64 << 16;
-    while bound < 1 << 61 && has_octet(shelf, file, bound)? {
+    while bound < 1 << 61 {
+        if !has_octet(shelf, file, bound)? {
+            return Ok(bound);
+        }
         bound *= 2;
     }
     Ok(bound)
@@ -61,7 +64,7 @@ fn find_len<S: Shelf>(shelf: &mut S, file: FileNo) -> Result<u64, ReadFault>
     ensures cause { HasCause (S.faults shelf.old) (S.faults shelf.new) result }
     ensures files { S.files shelf.new ≡ S.files shelf.old }
     ensures opened { S.opened shelf.new ≡ S.opened shelf.old }
-    ensures small { IfOk result (λ n. n < 2 ^ 63) }
+    ensures small { IfOk result (λ n. n ≤ 2 ^ 62) }
 {
     let mut low = 0u64;
     let mut high = find_bound(shelf, file)?;
@@ -76,7 +79,7 @@ fn find_len<S: Shelf>(shelf: &mut S, file: FileNo) -> Result<u64, ReadFault>
     Ok(low)
 }
 
-// A piece of a file, from an offset on.
+// The octets of a file from an offset on, as many as there are of so many.
 fn read_piece<S: Shelf>(
     alloc: Global,
     shelf: &mut S,
@@ -97,23 +100,52 @@ fn read_piece<S: Shelf>(
     Ok(piece)
 }
 
+// Adds a piece; the first is taken as it is.
+fn add_piece(octets: &mut Vec<u8>, piece: Vec<u8>) -> Result<(), ReadError>
+    ensures ok { OnOk result (octets.new.items ≡ octets.old.items ++ piece.items) }
+    ensures err { IfErr result (λ e. e ≡ NoMemory) }
+{
+    if octets.is_empty() {
+        *octets = piece;
+    } else {
+        octets.extend_from_slice(&piece)?;
+    }
+    Ok(())
+}
+
+// Reads on behind the octets so far, and says whether the file may have more.
+fn read_more<S: Shelf>(
+    alloc: Global,
+    shelf: &mut S,
+    file: FileNo,
+    octets: &mut Vec<u8>,
+    len: usize,
+) -> Result<bool, ReadError>
+    requires { len ≤ 2 ^ 62 + 1 }
+    ensures so_far { IfOk result (λ full. IsFrontOf (content (S.files shelf.old) (S.opened shelf.old) file.0) octets.old.items → IsSoFar (content (S.files shelf.old) (S.opened shelf.old) file.0) octets.new.items full) }
+    ensures cause { ReadCause (S.faults shelf.old) (S.faults shelf.new) result }
+    ensures files { S.files shelf.new ≡ S.files shelf.old }
+    ensures opened { S.opened shelf.new ≡ S.opened shelf.old }
+{
+    let piece = read_piece(alloc, shelf, file, octets.len() as u64, len)?;
+    let full = piece.len() == len;
+    add_piece(octets, piece)?;
+    Ok(full)
+}
+
 // The octets of an opened file: one piece as long as it seems, and more while there is more.
 fn read_opened<S: Shelf>(alloc: Global, shelf: &mut S, file: FileNo) -> Result<Vec<u8>, ReadError>
     ensures octets { IfOk result (λ v. IsContent (content (S.files shelf.old) (S.opened shelf.old) file.0) v.items) }
     ensures cause { ReadCause (S.faults shelf.old) (S.faults shelf.new) result }
     ensures files { S.files shelf.new ≡ S.files shelf.old }
 {
-    let mut asked = find_len(shelf, file)? as usize + 1;
-    let mut octets = read_piece(alloc, shelf, file, 0, asked)?;
-    let mut full = octets.len() == asked;
+    let mut octets = Vec::new(alloc);
+    let mut len = find_len(shelf, file)? as usize + 1;
     for _ in 0..u64::MAX {
-        if !full {
+        if !read_more(alloc, shelf, file, &mut octets, len)? {
             return Ok(octets);
         }
-        asked = 1 << 20;
-        let piece = read_piece(alloc, shelf, file, octets.len() as u64, asked)?;
-        full = piece.len() == asked;
-        octets.extend_from_slice(&piece)?;
+        len = 1 << 20;
     }
     Err(ReadError::NoMemory)
 }

@@ -1,0 +1,4 @@
+pub mod Pieces
+pub mod Onto
+pub mod Legality
+pub mod RunLaws

@@ -3,3 +3,5 @@ pub mod Blocks
 pub mod Answers
 pub mod Walk
 pub mod Opening
+pub mod Parts
+pub mod Frames

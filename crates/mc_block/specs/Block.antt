@@ -4,7 +4,7 @@ use Rattle.std.specs.Int.{cast_signed, from_be_bytes, w16}
 use Rattle.mc_packet.specs.declared.packet.Packet.{Packet}
 use Rattle.mc_ebml.specs.declared.read.Coded.{Coded}
 use Rattle.mc_ebml.specs.declared.read.EbmlError.{EbmlError}
-use Rattle.mc_ebml.specs.Element.{coded_from}
+use Rattle.mc_ebml.specs.Element.{coded_at}
 use Rattle.mc_block.specs.declared.error.BlockError.{BlockError}
 use Rattle.mc_block.specs.declared.error.BlockError.TheVariants.{ShortBlock, TooLarge, TimeRange, BadGroup, NoMemory}
 use Rattle.mc_block.specs.declared.parts.Place.{Place}
@@ -36,7 +36,7 @@ number_of (Ok n) = Ok n
 number_of (Err e) = Err ShortBlock
 
 unfoldable pub track_of : List ℕ → Result ℕ BlockError
-track_of octets = number_of (coded_from octets) >>= λ n. Ok n.value
+track_of octets = number_of (coded_at octets 0) >>= λ n. Ok n.value
 
 -- a signed number of two octets
 abbrev pub relative_of : ℕ → ℕ → ℤ
@@ -50,7 +50,7 @@ behind_track n (a ∷ b ∷ []) = Err ShortBlock
 behind_track n (a ∷ b ∷ flags ∷ rest) = Ok (record { track = n.value; relative = relative_of a b; flags = flags; at = n.width + 3 })
 
 unfoldable pub head_of : List ℕ → Result BlockHead BlockError
-head_of octets = number_of (coded_from octets) >>= λ n. behind_track n (drop n.width octets)
+head_of octets = number_of (coded_at octets 0) >>= λ n. behind_track n (drop n.width octets)
 
 -- ---- the block of an element
 
@@ -82,38 +82,44 @@ frame_time place relative lane = ((pos place.cluster_time +ℤ relative) *ℤ po
 abbrev pub in_range : ℤ → Bool
 in_range time = int_le (neg_ℤ (pos (2 ^ 62))) time && int_le time (pos (2 ^ 62))
 
+abbrev pub time_of : Place → ℤ → ℕ → Option ℤ
+time_of place relative lane = if in_range (frame_time place relative lane) then Some (frame_time place relative lane) else None
+
 -- the highest bit of a SimpleBlock's flags
 abbrev pub is_key : Option Bool → ℕ → Bool
 is_key None flags = nat_le 128 flags
 is_key (Some key) flags = key
 
-abbrev pub packet_of : Place → BlockHead → Bool → ℕ → List ℕ → Packet
-packet_of place head key lane payload = record {
-  track = head.track;
-  pos = record { block = place.pos; lane = lane };
-  time = frame_time place head.relative lane;
-  sync = key && lane == 0;
-  key = key;
-  body = payload;
-}
-
-abbrev pub and_packets : Packet → Result (List Packet) BlockError → Result (List Packet) BlockError
-and_packets p (Ok ps) = Ok (p ∷ ps)
-and_packets p (Err e) = Err e
-
--- the packets of the frames from a lane on, where each time is in range
-abbrev pub packets_from : Place → BlockHead → Bool → List ℕ → ℕ → List (ℕ × ℕ) → Result (List Packet) BlockError
-packets_from place head key rest lane [] = Ok []
-packets_from place head key rest lane (span ∷ spans) =
+-- the packet of a frame, whose time is in range; the first frame of a keyframe is a sync point
+abbrev pub packet_of : Place → BlockHead → Bool → List ℕ → ℕ → ℕ × ℕ → Result Packet BlockError
+packet_of place head key rest lane span =
     if in_range (frame_time place head.relative lane)
-    then and_packets (packet_of place head key lane (slice_range rest span.0 span.1)) (packets_from place head key rest (lane + 1) spans)
+    then Ok (record {
+      track = head.track;
+      pos = record { block = place.pos; lane = lane };
+      time = frame_time place head.relative lane;
+      sync = key && lane == 0;
+      key = key;
+      body = slice_range rest span.0 span.1;
+    })
     else Err TimeRange
 
+-- the packets of the frames from a lane on
+abbrev pub packets_from : Place → BlockHead → Bool → List ℕ → ℕ → List (ℕ × ℕ) → Result (List Packet) BlockError
+packets_from place head key rest lane [] = Ok []
+packets_from place head key rest lane (span ∷ spans) = do
+  packet ← packet_of place head key rest lane span
+  packets ← packets_from place head key rest (lane + 1) spans
+  Ok (packet ∷ packets)
+
+-- the packets of what stands behind a head
+abbrev pub packets_behind : Place → BlockHead → Bool → List ℕ → Result (List Packet) BlockError
+packets_behind place head key rest = frames_of head.flags rest >>= λ spans. packets_from place head key rest 0 spans
+
+-- the packets of a block
 unfoldable pub packets_of : Place → BlockBody → Result (List Packet) BlockError
-packets_of place body = do
-  head ← head_of body.octets
-  spans ← frames_of head.flags (drop head.at body.octets)
-  packets_from place head (is_key body.keyframe head.flags) (drop head.at body.octets) 0 spans
+packets_of place body =
+    head_of body.octets >>= λ head. packets_behind place head (is_key body.keyframe head.flags) (drop head.at body.octets)
 
 -- the packets of a SimpleBlock
 unfoldable pub block_of : Place → List ℕ → Result (List Packet) BlockError

@@ -1,10 +1,10 @@
 -- The frames of a block (RFC 9559, section 10.3): where each begins and ends behind the block's flags.
-use Rattle.std.specs.Prelude.{ℕ, zero, suc, ◌+◌, ◌-◌, ◌*◌, ◌/◌, ◌%◌, ◌^◌, nat_lt, nat_le, ◌==◌, if◌then◌else◌, List, [], ◌∷◌, length, drop, sum, replicate, Option, Some, None, option_map, Result, Ok, Err, ℤ, pos, negsuc, ◌+ℤ◌, ◌-ℤ◌}
+use Rattle.std.specs.Prelude.{ℕ, zero, suc, ◌+◌, ◌-◌, ◌*◌, ◌/◌, ◌%◌, ◌^◌, ◌≤◌, nat_lt, nat_le, ◌==◌, if◌then◌else◌, List, [], ◌∷◌, length, drop, sum, replicate, Option, Some, None, option_map, Result, Ok, Err, ℤ, pos, negsuc, ◌+ℤ◌, ◌-ℤ◌}
 use Rattle.mc_ebml.specs.declared.read.Size.{Size}
 use Rattle.mc_ebml.specs.declared.read.Size.TheVariants.{Known, Unknown}
 use Rattle.mc_ebml.specs.declared.read.Coded.{Coded}
 use Rattle.mc_ebml.specs.declared.read.EbmlError.{EbmlError}
-use Rattle.mc_ebml.specs.Element.{coded_from, size_of}
+use Rattle.mc_ebml.specs.Element.{coded_at, size_at}
 use Rattle.mc_block.specs.declared.error.BlockError.{BlockError}
 use Rattle.mc_block.specs.declared.error.BlockError.TheVariants.{BadLace}
 use Rattle.mc_block.specs.declared.lace.Lacing.{Lacing}
@@ -13,6 +13,10 @@ use Rattle.mc_block.specs.declared.lace.Lacing.TheVariants.{Single, Xiph, Fixed,
 -- something that is read at the front of octets, and what is left behind it
 abbrev pub Front : Type 0 → Type 0
 Front A = Option (A × List ℕ)
+
+-- the same, told by how many octets it takes
+abbrev pub front : {A : Type 0} → List ℕ → Option (A × ℕ) → Front A
+front octets found = option_map (λ x. (x.0, drop x.1 octets)) found
 
 -- read one thing, and then more out of what is left
 infixl 10 ◌then◌
@@ -33,18 +37,17 @@ xiph_size (b ∷ bs) = if nat_lt b 255 then Some (b, bs) else longer b (xiph_siz
 
 -- ---- EBML lacing
 
--- a number coded like a size
-abbrev pub coded_front : Result Coded EbmlError → List ℕ → Front Coded
-coded_front (Err e) octets = None
-coded_front (Ok n) octets = Some (n, drop n.width octets)
-
--- the first size may not be all ones
+-- the first size, which may not be all ones
 abbrev pub known : Size → List ℕ → Front ℕ
 known Unknown left = None
 known (Known n) left = Some (n, left)
 
+abbrev pub sized : Result (Size × ℕ) EbmlError → List ℕ → Front ℕ
+sized (Err e) octets = None
+sized (Ok x) octets = known x.0 (drop x.1 octets)
+
 abbrev pub first_size : List ℕ → Front ℕ
-first_size octets = coded_front (coded_from octets) octets then λ n left. known (size_of n) left
+first_size octets = sized (size_at octets 0) octets
 
 -- a difference is as many value bits, and the middle of their range stands for 0
 abbrev pub difference : Coded → ℤ
@@ -55,9 +58,13 @@ abbrev pub natural : ℤ → List ℕ → Front ℕ
 natural (negsuc n) left = None
 natural (pos n) left = Some (n, left)
 
+abbrev pub changed : ℕ → Result Coded EbmlError → List ℕ → Front ℕ
+changed size (Err e) octets = None
+changed size (Ok n) octets = natural (pos size +ℤ difference n) (drop n.width octets)
+
 -- the size after one of so many octets
 abbrev pub changed_size : ℕ → List ℕ → Front ℕ
-changed_size size octets = coded_front (coded_from octets) octets then λ n left. natural (pos size +ℤ difference n) left
+changed_size size octets = changed size (coded_at octets 0) octets
 
 -- ---- the sizes of the first n frames of a lace
 
@@ -114,3 +121,7 @@ frames_in lacing rest = laced lacing rest
 -- the frames of a block with these flags, in what stands behind them
 unfoldable pub frames_of : ℕ → List ℕ → Result (List (ℕ × ℕ)) BlockError
 frames_of flags rest = frames_in (lacing_of flags) rest
+
+-- a frame lies in so many octets
+abbrev pub LiesIn : ℕ → ℕ × ℕ → Type 0
+LiesIn len span = (span.0 ≤ span.1) × (span.1 ≤ len)

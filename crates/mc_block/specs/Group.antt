@@ -1,5 +1,6 @@
 -- The children of a BlockGroup (RFC 9559, section 5.1.3.5).
-use Rattle.std.specs.Prelude.{ℕ, zero, suc, ◌+◌, nat_le, ◌==◌, if◌then◌else◌, Bool, List, [], ◌∷◌, length, Option, Some, None, option_map, Result, Ok, Err, find}
+use Rattle.std.specs.Prelude.{ℕ, zero, suc, ◌+◌, nat_le, ◌==◌, if◌then◌else◌, Bool, List, [], ◌∷◌, length, Option, Some, None, option_map, Result, Ok, Err, find, ◌||◌}
+use Rattle.std.specs.Option.{option_or}
 use Rattle.std.specs.List.{list_any}
 use Rattle.mc_ebml.specs.declared.read.Size.{Size}
 use Rattle.mc_ebml.specs.declared.read.Size.TheVariants.{Known, Unknown}
@@ -7,6 +8,7 @@ use Rattle.mc_ebml.specs.declared.read.Head.{Head}
 use Rattle.mc_ebml.specs.declared.read.EbmlError.{EbmlError}
 use Rattle.mc_ebml.specs.Element.{head_at}
 use Rattle.mc_block.specs.declared.group.Child.{Child}
+use Rattle.mc_block.specs.declared.group.Found.{Found}
 
 abbrev pub sized_child : List ℕ → ℕ → ℕ → Size → Option Child
 sized_child octets id at Unknown = None
@@ -40,3 +42,14 @@ first_block cs = find (λ (c : Child). c.id == 0xA1) cs
 -- whether a ReferenceBlock stands among them
 abbrev pub refers : List Child → Bool
 refers cs = list_any (λ (c : Child). c.id == 0xFB) cs
+
+-- what a group tells of its block
+abbrev pub found_among : List Child → Found
+found_among cs = record { block = first_block cs; refers = refers cs }
+
+-- the same after one child more
+abbrev pub with_child : Found → Child → Found
+with_child found c = record {
+  block = option_or found.block (if c.id == 0xA1 then Some c else None);
+  refers = found.refers || (c.id == 0xFB);
+}

@@ -3,10 +3,18 @@
 //! gives the packets that `specs/Block` and `specs/Frames` say it holds, or the first fault.
 #![tactic(auto)]
 
+mod body;
 mod error;
 mod group;
 mod lace;
+mod packets;
 mod parts;
+mod sizes;
+mod times;
 
+pub use body::{block_head, block_track, simple_body};
 pub use error::BlockError;
+pub use group::group_body;
+pub use lace::frames;
+pub use packets::{block_packets, parse_block, parse_group};
 pub use parts::{BlockBody, BlockHead, FrameSpans, Place};

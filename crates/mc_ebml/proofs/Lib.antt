@@ -1,1 +1,3 @@
 pub mod Texts
+pub mod Marks
+pub mod ReadBack

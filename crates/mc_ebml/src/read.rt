@@ -85,7 +85,7 @@ pub fn read_id(bytes: &[u8], at: usize) -> Result<(u32, usize), EbmlError>
 }
 
 // The largest value of a coded number of so many octets.
-fn all_ones(width: usize) -> u64
+pub(crate) fn all_ones(width: usize) -> u64
     requires { (1 ≤ width) × (width ≤ 8) }
     ensures value { result ≡ 2 ^ (7 * width) - 1 }
     ensures small { result < 2 ^ 56 }

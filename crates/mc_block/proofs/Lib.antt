@@ -1,0 +1,4 @@
+pub mod Laces
+pub mod Found
+pub mod FarTimes
+pub mod Payloads

@@ -2,3 +2,5 @@ pub mod Walk
 pub mod Numbers
 pub mod Counted
 pub mod Listed
+pub mod Plain
+pub mod Shape

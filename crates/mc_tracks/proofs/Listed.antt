@@ -1,5 +1,5 @@
 -- The tracks of a body, child by child.
-use Rattle.std.proofs.Common.{◌≡◌, ◌≢◌, ℕ, ◌+◌, ◌-◌, ◌<◌, ◌≤◌, List, [], ◌∷◌, length, Option, Some, None, Result, Ok, Err, refl, sym, ap, ◌∙◌}
+use Rattle.std.proofs.Common.{◌≡◌, ◌≢◌, ℕ, ◌+◌, ◌-◌, ◌<◌, ◌≤◌, List, length, Some, None, Result, Ok, Err, sym, ap, ◌∙◌}
 use Rattle.mc_tracks.specs.declared.children.Child.{Child}
 use Rattle.mc_tracks.specs.declared.children.Master.TheVariants.{Tracks}
 use Rattle.mc_tracks.specs.declared.refused.Refused.{Refused}
@@ -8,7 +8,7 @@ use Rattle.mc_tracks.specs.declared.refused.TracksError.{TracksError}
 use Rattle.mc_tracks.specs.declared.refused.TracksError.TheVariants as failures
 use Rattle.mc_tracks.specs.declared.track.Track.{Track}
 use Rattle.mc_tracks.specs.Answer.{Fails, ◌>>=◌}
-use Rattle.mc_tracks.specs.Children.{Children, no_more, children, child_at, and_then}
+use Rattle.mc_tracks.specs.Children.{Children, children, child_at}
 use Rattle.mc_tracks.specs.Header.{with_child, listed, tracks_among, unless_broken}
 use Rattle.mc_tracks.proofs.Walk as walk
 

@@ -1,11 +1,11 @@
 -- Tracks kept under their numbers.
-use Rattle.std.proofs.Common.{◌≡◌, ℕ, suc, ◌<◌, List, [], ◌∷◌, ◌++◌, map, length, take, get_or, Option, Some, None, false, refl, sym, ap, ◌∙◌, nat_eq, inl, inr, arith, length-take}
+use Rattle.std.proofs.Common.{◌≡◌, ℕ, suc, ◌<◌, List, [], ◌∷◌, ◌++◌, map, length, take, get_or, None, false, refl, sym, ap, ◌∙◌, nat_eq, inl, inr, arith, length-take}
 use Rattle.std.specs.Map.{keys_of, values_of, lookup}
 use Rattle.std.proofs.lemmas.List.{map-append, get_or-take, get_or-map, get_or_default, length-map}
 use Rattle.std.proofs.lemmas.Map.Keys.{apart_from_distinct}
 use Rattle.std.proofs.lemmas.Bool.{eqb-false}
 use Rattle.std.proofs.lemmas.Bool.Decides.{eqb_tells}
-use Rattle.indexmap.specs.IndexMap.{IndexMap, keys, values, get, insert_entry}
+use Rattle.indexmap.specs.IndexMap.{IndexMap, values, insert_entry}
 use Rattle.indexmap.proofs.CallerLemmas.{insert_entry-new}
 use Rattle.mc_tracks.specs.declared.track.Track.{Track}
 use Rattle.mc_tracks.specs.TrackList.{numbered, HaveDistinctNumbers}
@@ -46,7 +46,7 @@ is_new ts i t lt e distinct = none_among t.no (take i ts) (λ j d within.
     let before : j < i = omega (arith, length-take i ts) in
     let same : get_or (take i ts) j d ≡ get_or ts j t = get_or-take i ts j d before ∙ get_or_default ts j d t (omega arith) in
     let apart : nat_eq (get_or (map (λ (t : Track). t.no) ts) j 0) (get_or (map (λ (t : Track). t.no) ts) i 0) ≡ false
-        = apart_from_distinct nat_eq (map (λ (t : Track). t.no) ts) j i 0 distinct before (simp length-map lt) in
+    = apart_from_distinct nat_eq (map (λ (t : Track). t.no) ts) j i 0 distinct before (simp length-map lt) in
     let at_j : get_or (map (λ (t : Track). t.no) ts) j 0 ≡ (get_or ts j t).no = get_or-map (λ (t : Track). t.no) ts j t 0 (omega arith) in
     let at_i : get_or (map (λ (t : Track). t.no) ts) i 0 ≡ (get_or ts i t).no = get_or-map (λ (t : Track). t.no) ts i t 0 lt in
     turned (get_or (take i ts) j d).no t.no (cc))

@@ -1,10 +1,10 @@
 -- A walk over the children of a body, one step at a time.
-use Rattle.std.proofs.Common.{◌≡◌, ◌≢◌, ℕ, zero, suc, ◌+◌, ◌-◌, ◌<◌, ◌≤◌, List, [], ◌∷◌, length, Option, Some, None, refl, sym, ap, ◌∙◌, arith, eq-eqb, inl, inr, false}
+use Rattle.std.proofs.Common.{◌≡◌, ◌≢◌, ℕ, zero, suc, ◌+◌, ◌-◌, ◌<◌, ◌≤◌, List, ◌∷◌, length, Some, None, refl, arith, eq-eqb, inl, inr, false}
 use Rattle.std.specs.Prelude.{◌==◌}
 use Rattle.std.proofs.lemmas.Bool.Decides.{eqb_tells}
 use Rattle.mc_tracks.specs.declared.children.Child.{Child}
 use Rattle.mc_tracks.specs.declared.children.Master.{Master}
-use Rattle.mc_tracks.specs.Children.{Children, no_more, and_then, children, children_of, child_at, first}
+use Rattle.mc_tracks.specs.Children.{no_more, and_then, children, children_of, child_at, first}
 
 differs : (a b : ℕ) → a ≢ b → (a == b) ≡ false
 differs a b h = elim (eqb_tells a b) [ inl e ↦ absurd (h e.1) | inr e ↦ e.0 ]

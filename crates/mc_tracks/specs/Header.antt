@@ -110,7 +110,7 @@ entry_of body at = do
   _ ← unless_broken at (children_of TrackEntry body).broken
   n ← positive_number (integer body 0 (first TRACK_NUMBER (children_of TrackEntry body).whole))
   Ok (option_map (λ kind. track body (children_of TrackEntry body).whole n kind)
-    (kind_of (integer body 0 (first TRACK_TYPE (children_of TrackEntry body).whole))))
+      (kind_of (integer body 0 (first TRACK_TYPE (children_of TrackEntry body).whole))))
 
 -- at most 64 tracks are listed, each under a number of its own
 abbrev pub with_track : List Track → Option Track → Result (List Track) Refused

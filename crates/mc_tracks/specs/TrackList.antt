@@ -1,5 +1,5 @@
 -- What is asked of a list of tracks.
-use Rattle.std.specs.Prelude.{ℕ, zero, suc, Bool, true, false, not, ◌&&◌, ◌==◌, nat_eq, is_some, if◌then◌else◌, List, [], ◌∷◌, map, filter, find, slice_get, Option, Some, None, option_map}
+use Rattle.std.specs.Prelude.{◌≢◌, ℕ, zero, suc, ◌<◌, ◌≤◌, Bool, true, false, not, ◌&&◌, ◌==◌, nat_eq, List, map, filter, find, slice_get, length, All, Option, Some, None, option_map}
 use Rattle.std.specs.List.{IsDistinct}
 use Rattle.mc_packet.specs.declared.choice.Kind.{Kind}
 use Rattle.mc_packet.specs.declared.choice.Kind.TheVariants.{Video, Audio, Sub}
@@ -13,6 +13,23 @@ numbered n tracks = find (λ (t : Track). n == t.no) tracks
 -- no two tracks have one number
 abbrev pub HaveDistinctNumbers : List Track → Type 0
 HaveDistinctNumbers tracks = IsDistinct nat_eq (map (λ (t : Track). t.no) tracks)
+
+-- a text of at most 65,536 octets, none of which is zero
+pub record IsPlainText (octets : List ℕ) : Type 0 where
+  pub short : length octets ≤ 65536
+  pub no_zero : All (λ b. b ≢ 0) octets
+
+pub record IsListed (t : Track) : Type 0 where
+  pub positive : 0 < t.no
+  pub codec : IsPlainText t.codec
+  pub name : IsPlainText t.name
+  pub language : IsPlainText t.language
+
+-- what every film's list of tracks is, over any octets
+pub record IsTrackList (tracks : List Track) : Type 0 where
+  pub few : length tracks ≤ 64
+  pub distinct : HaveDistinctNumbers tracks
+  pub each : All IsListed tracks
 
 abbrev pub is_of : Kind → Kind → Bool
 is_of Video Video = true
@@ -29,9 +46,13 @@ abbrev pub track_of_kind : Kind → ℕ → List Track → Option Track
 track_of_kind kind zero tracks = None
 track_of_kind kind (suc id) tracks = slice_get (all_of_kind kind tracks) id
 
+abbrev pub is_readable : Option Track → Bool
+is_readable None = false
+is_readable (Some t) = not t.encoded
+
 -- whether a number is a known track's: it is listed and its blocks are not encoded
 abbrev pub is_known : List Track → ℕ → Bool
-is_known tracks n = is_some (find (λ (t : Track). n == t.no && not t.encoded) tracks)
+is_known tracks n = is_readable (numbered n tracks)
 
 abbrev pub or_else : Option Track → Option Track → Option Track
 or_else (Some t) other = Some t

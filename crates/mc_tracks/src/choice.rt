@@ -34,9 +34,7 @@ fn preferred(tracks: &[Track], kind: Kind) -> Option<TrackNo>
 fn first_default(tracks: &[Track], kind: Kind) -> Option<&Track>
     ensures { option_copied result ≡ find (λ (t : Track). is_of kind t.kind && not t.encoded && t.default) tracks.now }
 {
-    tracks
-        .iter()
-        .find(|track| is_of(kind, track.kind) && !track.encoded && track.default)
+    tracks.iter().find(|track| is_of(kind, track.kind) && !track.encoded && track.default)
 }
 
 // The first track of a kind that is not encoded.

@@ -3,20 +3,20 @@
 //! `specs/Header` says they stand for, or the one refusal.
 #![tactic(auto)]
 
-mod choice;
-pub mod ids;
 mod children;
+mod choice;
 mod entry;
 mod fields;
 mod header;
+pub mod ids;
 mod info;
 mod list;
 mod refused;
 mod track;
 mod tracks;
 
-pub use choice::default_choice;
 pub use children::{Child, Master, read_element};
+pub use choice::default_choice;
 pub use header::parse_ebml_header;
 pub use info::parse_info;
 pub use list::TrackList;

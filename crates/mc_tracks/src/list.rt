@@ -1,6 +1,6 @@
 ghost use Rattle.std.specs.Prelude.{◌≡◌, [], ◌∷◌, ◌++◌, ◌<◌, ◌≤◌, None, length, nat_eq, OnOk, OnErr, IfOk, IfSome};
 ghost use Rattle.std.specs.Option.{option_copied};
-ghost use Rattle.mc_tracks.specs.TrackList.{numbered, track_of_kind, is_of, HaveDistinctNumbers};
+ghost use Rattle.mc_tracks.specs.TrackList.{numbered, track_of_kind, is_of, is_known, HaveDistinctNumbers};
 
 use crate::track::Track;
 use indexmap::IndexMap;
@@ -56,6 +56,16 @@ impl TrackList {
         ensures { option_copied result ≡ numbered no self.now }
     {
         self.by_number.get(&no)
+    }
+
+    /// Whether a number is a known track's: it is listed and its blocks are not encoded.
+    pub fn is_known(&self, no: TrackNo) -> bool
+        ensures { result ≡ is_known self.now no }
+    {
+        match self.get(no) {
+            Some(track) => !track.encoded,
+            None => false,
+        }
     }
 
     /// Adds a track at the end.

@@ -2,7 +2,7 @@ ghost use Rattle.std.specs.Prelude.{◌≡◌, ◌+◌, ◌<◌, ◌≤◌, ◌^
 ghost use Rattle.mc_tracks.specs.Answer.{Gives};
 ghost use Rattle.mc_tracks.specs.Children.{children_of, LiesIn};
 ghost use Rattle.mc_tracks.specs.Header.{with_track, with_child, unless_broken, tracks_of};
-ghost use Rattle.mc_tracks.specs.TrackList.{numbered};
+ghost use Rattle.mc_tracks.specs.TrackList.{numbered, IsTrackList};
 
 use crate::children::{Child, Master, read_child};
 use crate::entry::read_entry;
@@ -27,6 +27,7 @@ const MOST_TRACKS: usize = 64;
 pub fn parse_tracks(alloc: Global, body: &[u8], at: u64) -> Result<TrackList, TracksError>
     requires { at + length body.now < 2 ^ 64 }
     ensures value { Gives (λ l. l) result (tracks_of body.now at) }
+    ensures shape { IfOk result IsTrackList }
 {
     let mut list = TrackList::new(alloc);
     let mut place = 0;

@@ -5,3 +5,6 @@
 mod text;
 
 pub use text::{NoMemory, Text, Words, copy_words};
+
+#[cfg(test)]
+mod tests;

@@ -1,4 +1,4 @@
-use Rattle.std.proofs.Common.{rules, ◌≡◌, ◌≤◌, ◌-◌, length, sym, ap, ◌∙◌, arith}
+use Rattle.std.proofs.Common.{length, sym, ap, ◌∙◌, arith}
 use Rattle.mc_tracks.specs.Children.{Children}
 use Rattle.mc_tracks.proofs.Walk.{goes_on, breaks, ends, is_done, begins}
 use Rattle.mc_tracks.proofs.children.find_broken.Goals as goal
@@ -23,7 +23,7 @@ pub loop-preserved : goal.loop-preserved
 loop-preserved c = record {
   within = omega (arith, c.in-Some.ensures.lies);
   joined = sym (ap (λ (cs : Children). cs.broken) (goes_on (length c.args.body.now) c.loop.counter c.loop.place c.args.master c.args.body.now c.in-Some.child c.loop-test.true c.if-place-body.false c.in-Some.ensures.value))
-    ∙ c.loop.invariant.joined;
+      ∙ c.loop.invariant.joined;
 }
 
 pub returns-clause-value : goal.returns-clause-value

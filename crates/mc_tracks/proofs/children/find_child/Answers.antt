@@ -1,4 +1,4 @@
-use Rattle.std.proofs.Common.{rules, ◌≡◌, ◌≤◌, ◌+◌, ◌-◌, length, sym, ap, ◌∙◌, arith}
+use Rattle.std.proofs.Common.{rules, ◌+◌, ◌-◌, length, sym, ap, ◌∙◌, arith}
 use Rattle.mc_tracks.specs.Children.{Children, children, first}
 use Rattle.mc_tracks.proofs.Walk.{goes_on, breaks, ends, is_done, begins, first_here, first_later}
 use Rattle.mc_tracks.proofs.children.find_child.Goals as goal
@@ -30,10 +30,10 @@ pub loop-preserved : goal.loop-preserved
 loop-preserved c = record {
   within = omega (arith, c.in_ok-child.ensures.lies);
   joined =
-    let behind = children (length c.args.body.now - (c.loop.counter + 1)) c.args.master c.args.body.now c.in_ok-child.child.stop in
-    let step = goes_on (length c.args.body.now) c.loop.counter c.loop.place c.args.master c.args.body.now c.in_ok-child.child c.loop-test.true c.if-place-body.false c.in_ok-child.ensures.value in
-    sym (ap (λ (cs : Children). first c.args.id cs.whole) step ∙ first_later c.args.id c.in_ok-child.child behind.whole c.if-child-id.false)
-    ∙ c.loop.invariant.joined;
+      let behind = children (length c.args.body.now - (c.loop.counter + 1)) c.args.master c.args.body.now c.in_ok-child.child.stop in
+      let step = goes_on (length c.args.body.now) c.loop.counter c.loop.place c.args.master c.args.body.now c.in_ok-child.child c.loop-test.true c.if-place-body.false c.in_ok-child.ensures.value in
+      sym (ap (λ (cs : Children). first c.args.id cs.whole) step ∙ first_later c.args.id c.in_ok-child.child behind.whole c.if-child-id.false)
+      ∙ c.loop.invariant.joined;
 }
 
 pub returns-clause-value : goal.returns-clause-value

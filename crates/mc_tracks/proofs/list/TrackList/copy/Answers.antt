@@ -1,4 +1,4 @@
-use Rattle.std.proofs.Common.{rules, arith}
+use Rattle.std.proofs.Common.{rules}
 use Rattle.mc_tracks.proofs.Numbers.{is_new}
 use Rattle.mc_tracks.proofs.list.TrackList.copy.Goals as goal
 

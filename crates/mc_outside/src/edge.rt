@@ -1,4 +1,4 @@
-ghost use Rattle.std.specs.Prelude.{◌≡◌, ◌≤◌, ◌<◌, length, IfOk, IfSome};
+ghost use Rattle.std.specs.Prelude.{◌≡◌, ◌≤◌, ◌<◌, length, IfOk, IfErr, IfSome};
 ghost use Rattle.mc_outside.specs.Causes.{HasCause};
 ghost use Rattle.mc_outside.specs.Shelf.{InBounds, OpenCause, faults_after_open, faults_after_read};
 ghost use Rattle.mc_outside.specs.Sink.{Took, WriteCause, faults_after_write};
@@ -144,20 +144,6 @@ impl<W: Write> StdSink<W> {
     {
         StdSink { out, faults: 0 }
     }
-
-    fn put(&mut self, piece: &[u8]) -> Result<usize, SinkError>
-        ensures took { IfOk result (λ n. Took piece.now n) }
-        ensures cause { WriteCause self.old.faults self.new.faults result }
-        ensures faults { self.new.faults ≡ faults_after_write result self.old.faults }
-    {
-        match write_some(&mut self.out, piece) {
-            Ok(count) if count > 0 || piece.is_empty() => Ok(count),
-            _ => {
-                self.faults = self.faults.saturating_add(1);
-                Err(SinkError::Failed)
-            }
-        }
-    }
 }
 
 // One write, begun again as often as it is interrupted.
@@ -180,8 +166,19 @@ impl<W: Write> Sink for StdSink<W> {
 
     ghost faults = { λ s. s.faults };
 
-    /// One write to the system, begun again where it is interrupted.
-    fn write(&mut self, piece: &[u8]) -> Result<usize, SinkError> {
-        self.put(piece)
+    /// One write to the system, begun again where it is interrupted. It takes no memory.
+    fn write(&mut self, piece: &[u8]) -> Result<usize, SinkError>
+        ensures took { IfOk result (λ n. Took piece.now n) }
+        ensures cause { WriteCause (⟦<StdSink<W> as Sink>⟧.faults self.old) (⟦<StdSink<W> as Sink>⟧.faults self.new) result }
+        ensures faults { ⟦<StdSink<W> as Sink>⟧.faults self.new ≡ faults_after_write result (⟦<StdSink<W> as Sink>⟧.faults self.old) }
+        ensures device { IfErr result (λ e. e ≡ SinkError.Failed) }
+    {
+        match write_some(&mut self.out, piece) {
+            Ok(count) if count > 0 || piece.is_empty() => Ok(count),
+            _ => {
+                self.faults = self.faults.saturating_add(1);
+                Err(SinkError::Failed)
+            }
+        }
     }
 }

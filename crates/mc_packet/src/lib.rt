@@ -4,11 +4,15 @@
 #![tactic(auto)]
 
 mod cache;
+mod checksum;
 mod choice;
 mod packet;
+#[cfg(test)]
+mod tests;
 mod walk;
 
 pub use cache::{CacheView, Heads, Limits, RangeView, RangeViews, Spans, Status};
+pub use checksum::sum;
 pub use choice::{Choice, Kind, Starts, TrackNo, Why};
-pub use packet::{NoMemory, Packet, Packets, Pos, sum, weight};
+pub use packet::{NoMemory, Packet, Packets, Pos, weight};
 pub use walk::{Chunk, Ending, Fault, Level, Mark};

@@ -1,5 +1,4 @@
 ghost use Rattle.std.specs.Prelude.{◌≡◌, ◌+◌, ◌++◌, length, take, IfOk};
-ghost use Rattle.mc_packet.specs.Payload.{checksum};
 
 use crate::choice::TrackNo;
 use bytes::Bytes;
@@ -68,16 +67,4 @@ pub fn weight(p: &Packet) -> u64
     ensures { result ≡ length p.now.body + 64 }
 {
     p.body.len() as u64 + 64
-}
-
-/// The checksum of a payload: 0 at first, and for each octet 31 times as much and the octet,
-/// modulo 2^32.
-pub fn sum(body: &[u8]) -> u32
-    ensures { result ≡ checksum body.now }
-{
-    let mut sum = 0u32;
-    for b in body {
-        sum = ((sum as u64 * 31 + *b as u64) % (1 << 32)) as u32;
-    }
-    sum
 }

@@ -1,0 +1,56 @@
+#!/usr/bin/env bash
+# Times `mcplay run FILM` beside other readers of the same films, each as a ratio to `cat`, and
+# their peak memory. Usage: bench/run.sh [FILM...]; without a film it makes one of about 200 MB
+# with ffmpeg in bench/films. Tools that are missing are skipped.
+cd "$(dirname "$0")/.." || exit 1
+program=crates/mcplay/out/mcplay
+runs=${RUNS:-5}
+[ -x "$program" ] || { echo "no $program: run 'rt ci' or './mcplay --version' first"; exit 1; }
+
+make_film() {
+    command -v ffmpeg >/dev/null || { echo "no ffmpeg to make a film with"; exit 1; }
+    mkdir -p bench/films
+    # mpeg2 at a fixed high rate, and PCM: many octets for little work
+    ffmpeg -v error -y -f lavfi -i testsrc2=size=1280x720:rate=25 -f lavfi -i sine=frequency=440:sample_rate=48000 \
+        -t "$2" -c:v mpeg2video -b:v 40M -minrate 40M -maxrate 40M -bufsize 8M -g 12 -c:a pcm_s16le "$1" || exit 1
+}
+
+films=("$@")
+if [ ${#films[@]} -eq 0 ]; then
+    films=(bench/films/about-200MB.mkv)
+    [ -f "${films[0]}" ] || make_film "${films[0]}" 40
+fi
+
+# the median of the seconds of some runs, and the greatest resident memory in MB
+measure() {
+    for _ in $(seq "$runs"); do
+        /usr/bin/env python3 - "$@" <<'PY'
+import os, resource, subprocess, sys, time
+start = time.perf_counter()
+subprocess.run(sys.argv[1:], stdout=subprocess.DEVNULL, stderr=subprocess.DEVNULL, stdin=subprocess.DEVNULL)
+spent = time.perf_counter() - start
+print(f"{spent:.4f} {resource.getrusage(resource.RUSAGE_CHILDREN).ru_maxrss / 1024:.1f}")
+PY
+    done | sort -n | awk '{ t[NR] = $1; if ($2 > m) m = $2 } END { print t[int((NR + 1) / 2)], m }'
+}
+
+report() {
+    local name=$1
+    shift
+    read -r seconds memory < <(measure "$@")
+    ratio=$(awk -v a="$seconds" -v b="$base" 'BEGIN { printf "%.1f", a / b }')
+    printf '%-34s %9s s %7s x %9s MB\n' "$name" "$seconds" "$ratio" "$memory"
+}
+
+for film in "${films[@]}"; do
+    echo "$film: $(stat -c %s "$film") octets, $(nproc) cores, median of $runs runs"
+    read -r base _ < <(measure cat "$film")
+    report cat cat "$film"
+    report "mcplay run" "$program" run "$film"
+    command -v ffmpeg >/dev/null && report "ffmpeg -map 0 -c copy -f framecrc" ffmpeg -v error -i "$film" -map 0 -c copy -f framecrc -
+    if command -v mkvextract >/dev/null; then
+        tracks=$(mkvmerge -J "$film" | python3 -c 'import json,sys; print(" ".join("%d:/dev/null" % t["id"] for t in json.load(sys.stdin)["tracks"]))')
+        # shellcheck disable=SC2086
+        report "mkvextract tracks" mkvextract "$film" tracks $tracks
+    fi
+done

@@ -1,0 +1,11 @@
+//! Tests of the whole: films in memory, read and run. It has no code of its own.
+#![tactic(auto)]
+
+#[cfg(test)]
+mod endings;
+#[cfg(test)]
+mod films;
+#[cfg(test)]
+mod runs;
+#[cfg(test)]
+mod support;

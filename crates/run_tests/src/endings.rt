@@ -52,7 +52,7 @@ fn cut_before_the_clusters(rt: HostRuntime) -> Result<(), Fail> {
 
 // The lines of a text that stand before the first end.
 fn gives(text: &[u8]) -> &[u8] {
-    match text.windows(4).position(|four| four == b"end ") {
+    match text.windows(4).position(|four| four == b"end ".as_slice()) {
         Some(at) if at <= text.len() => &text[..at],
         _ => text,
     }

@@ -1,13 +1,11 @@
 -- A walk and a part are the same for each number of steps that is enough, and where a part ends.
-use Rattle.std.proofs.Common.{◌≡◌, ℕ, zero, suc, ◌-◌, ◌<◌, ◌≤◌, List, [], length, Option, Some, None, refl, ap, arith}
-use Rattle.mc_packet.specs.declared.packet.Packet.{Packet}
-use Rattle.mc_packet.specs.declared.walk.Ending.{Ending}
+use Rattle.std.proofs.Common.{◌≡◌, ℕ, zero, suc, ◌-◌, ◌<◌, ◌≤◌, length, Some, None, refl, ap, arith}
 use Rattle.mc_packet.specs.declared.walk.Level.{Level}
 use Rattle.mc_walk.specs.declared.plan.Plan.{Plan}
 use Rattle.mc_walk.specs.declared.plan.Step.{Step}
 use Rattle.mc_walk.specs.declared.plan.Step.TheVariants.{End, On}
 use Rattle.mc_walk.specs.Walk.{step_at, walk, after, in_front, packets_in, Rest, Rises}
-use Rattle.mc_walk.specs.Parts.{mark, Part, part, part_after}
+use Rattle.mc_walk.specs.Parts.{Part, part, part_after}
 use Rattle.mc_walk.proofs.Rising.{step-rises}
 
 -- ---- enough steps

@@ -1,3 +1,5 @@
 pub mod Rising
 pub mod Enough
 pub mod Joining
+pub mod Lanes
+pub mod Framing

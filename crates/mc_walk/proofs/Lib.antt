@@ -3,3 +3,4 @@ pub mod Enough
 pub mod Joining
 pub mod Lanes
 pub mod Framing
+pub mod Opened

@@ -5,8 +5,10 @@ use Rattle.mc_tracks.specs.declared.refused.TracksError.{TracksError}
 use Rattle.mc_tracks.specs.declared.refused.TracksError.TheVariants as causes
 use Rattle.mc_tracks.specs.Answer.{◌>>=◌}
 use Rattle.mc_walk.specs.declared.plan.Plan.{Plan}
-use Rattle.mc_walk.specs.Walk.{film_walk}
+use Rattle.mc_walk.specs.Walk.{film_walk, steps}
 use Rattle.mc_walk.specs.Opening.{opened_film}
+use Rattle.mc_walk.specs.Parts.{joined, opening_mark}
+use Rattle.mc_walk.specs.Frames.{AreItsFrames}
 use Rattle.mc_film.specs.declared.whole.FilmError.{FilmError}
 use Rattle.mc_film.specs.declared.whole.FilmError.TheVariants as failures
 use Rattle.mc_film.specs.declared.whole.WholeFilm.{WholeFilm}
@@ -30,3 +32,13 @@ Fails (failures.Refused r) value = value ≡ Err r
 abbrev pub Gives : {Y : Type 0} → Result Y FilmError → Result Y Refused → Type 0
 Gives (Ok x) value = value ≡ Ok x
 Gives (Err e) value = Fails e value
+
+-- ---- what a film is, beside the walk
+
+-- its packets are the frames of the block elements that stand in the walk over its octets: each of them once, in order
+abbrev pub FilmIsItsFrames : List ℕ → WholeFilm → Type 0
+FilmIsItsFrames octets f = (plan : Plan) × (opened_film octets ≡ Ok plan) × AreItsFrames plan f.packets
+
+-- read part by part, from mark to mark, it has the same packets and ends in the same way
+abbrev pub FilmIsItsParts : List ℕ → WholeFilm → Type 0
+FilmIsItsParts octets f = (plan : Plan) × (opened_film octets ≡ Ok plan) × (joined (steps plan) plan opening_mark ≡ (f.packets, f.ending))

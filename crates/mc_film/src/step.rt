@@ -6,9 +6,7 @@ ghost use Rattle.mc_walk.specs.Walk.{stamped, blocked, time_of, passed, moved, h
 
 use mc_ebml::{EbmlError, read_head, read_uint};
 use mc_packet::{Ending, Fault, Level, NoMemory, Packets};
-use mc_walk::{
-    Move, Plan, Role, Step, WalkError, block_element, last_ending, move_at, settled,
-};
+use mc_walk::{Move, Plan, Role, Step, WalkError, block_element, last_ending, move_at, settled};
 use std::alloc::{AllocError, Global};
 
 // A Timestamp sets the Cluster's time.
@@ -104,12 +102,7 @@ fn passed_step(
 }
 
 // What an element's head asks for.
-fn moved_step(
-    alloc: Global,
-    plan: &Plan,
-    place: u64,
-    movement: Move,
-) -> Result<Step, NoMemory>
+fn moved_step(alloc: Global, plan: &Plan, place: u64, movement: Move) -> Result<Step, NoMemory>
     requires onward { StartsBehind place (length plan.now.octets) movement }
     ensures value { IfOk result (λ s. s ≡ moved plan.now place movement) }
     ensures rises { IfOk result (Rises place (length plan.now.octets)) }
@@ -136,12 +129,7 @@ fn moved_step(
 }
 
 // An element at a place where the walk goes on.
-fn headed_step(
-    alloc: Global,
-    plan: &Plan,
-    place: u64,
-    level: Level,
-) -> Result<Step, NoMemory>
+fn headed_step(alloc: Global, plan: &Plan, place: u64, level: Level) -> Result<Step, NoMemory>
     requires { place ≤ length plan.now.octets }
     ensures value { IfOk result (λ s. s ≡ headed plan.now place level (head_at plan.now.octets place)) }
     ensures rises { IfOk result (Rises place (length plan.now.octets)) }

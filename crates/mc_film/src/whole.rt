@@ -1,7 +1,7 @@
 ghost use Rattle.std.specs.Prelude.{◌≡◌, ◌<◌, ◌≤◌, length, IfOk};
 ghost use Rattle.mc_film.specs.declared.whole.FilmError.TheVariants as failures;
 ghost use Rattle.mc_walk.specs.Opening.{opened_film};
-ghost use Rattle.mc_film.specs.Film.{Gives, film_of, whole};
+ghost use Rattle.mc_film.specs.Film.{Gives, film_of, whole, FilmIsItsFrames, FilmIsItsParts};
 
 use crate::opening::{find_segment, read_header};
 use crate::step::walk_on;
@@ -97,6 +97,8 @@ fn read_whole(alloc: Global, plan: Plan) -> Result<WholeFilm, NoMemory>
 #[tactic(auto, unfolding(crate::specs::Film::film_of))]
 pub fn film_of_octets(alloc: Global, octets: Bytes) -> Result<WholeFilm, FilmError>
     ensures film { Gives result (film_of octets) }
+    ensures frames { IfOk result (FilmIsItsFrames octets) }
+    ensures parts { IfOk result (FilmIsItsParts octets) }
 {
     let plan = open(alloc, octets)?;
     Ok(read_whole(alloc, plan)?)
@@ -105,6 +107,8 @@ pub fn film_of_octets(alloc: Global, octets: Bytes) -> Result<WholeFilm, FilmErr
 /// The film that these octets are, over a copy of them.
 pub fn film(alloc: Global, bytes: &[u8]) -> Result<WholeFilm, FilmError>
     ensures film { Gives result (film_of bytes.now) }
+    ensures frames { IfOk result (FilmIsItsFrames bytes.now) }
+    ensures parts { IfOk result (FilmIsItsParts bytes.now) }
 {
     film_of_octets(alloc, Bytes::copy_from_slice(alloc, bytes)?)
 }

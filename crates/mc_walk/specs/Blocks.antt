@@ -1,12 +1,11 @@
 -- A block element of a Cluster: the packets that it gives, or the first fault.
-use Rattle.std.specs.Prelude.{ℕ, Bool, if◌then◌else◌, List, [], Option, Some, None, Result, Ok, Err}
+use Rattle.std.specs.Prelude.{ℕ, if◌then◌else◌, List, [], Option, Some, None, Result, Ok, Err}
 use Rattle.mc_packet.specs.declared.packet.Packet.{Packet}
 use Rattle.mc_packet.specs.declared.walk.Fault.{Fault}
 use Rattle.mc_packet.specs.declared.walk.Fault.TheVariants as faults
 use Rattle.mc_block.specs.declared.error.BlockError.{BlockError}
 use Rattle.mc_block.specs.declared.error.BlockError.TheVariants as errors
 use Rattle.mc_block.specs.declared.parts.BlockBody.{BlockBody}
-use Rattle.mc_block.specs.declared.parts.Place.{Place}
 use Rattle.mc_block.specs.Block.{simple_body_of, group_body_of, track_of, packets_of}
 use Rattle.mc_tracks.specs.declared.track.Track.{Track}
 use Rattle.mc_tracks.specs.TrackList.{numbered}

@@ -23,7 +23,10 @@ pub enum Move {
     /// The walk ends at this element.
     Fault(Fault),
     /// A Cluster is entered: the walk goes on at its first child.
-    Enter { to: u64, level: Level },
+    Enter {
+        to: u64,
+        level: Level,
+    },
     /// An element whose body stands from `at` up to `stop` has to lie in the film; the walk then
     /// goes on behind it.
     Pass {

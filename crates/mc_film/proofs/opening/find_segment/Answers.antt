@@ -1,4 +1,4 @@
-use Rattle.std.proofs.Common.{length, sym, ◌∙◌}
+use Rattle.std.proofs.Common.{length}
 use Rattle.mc_film.proofs.Searching.{no_head, found, not_whole, goes_on, is_done}
 use Rattle.mc_film.proofs.opening.find_segment.Goals as goal
 

@@ -1,0 +1,6 @@
+pub mod Rising
+pub mod Enough
+pub mod Joining
+pub mod Lanes
+pub mod Framing
+pub mod Opened

@@ -1,6 +1,7 @@
 -- The packets of a block (RFC 9559, sections 10.1 to 10.3).
-use Rattle.std.specs.Prelude.{◌≡◌, ℕ, ◌+◌, ◌*◌, ◌^◌, Bool, true, false, not, ◌&&◌, nat_lt, nat_le, ◌==◌, if◌then◌else◌, List, [], ◌∷◌, length, drop, slice_range, Option, Some, None, option_map, unwrap_or, Result, Ok, Err, ℤ, pos, neg_ℤ, ◌+ℤ◌, ◌*ℤ◌, int_le}
+use Rattle.std.specs.Prelude.{◌≡◌, ℕ, ◌+◌, ◌*◌, ◌^◌, Bool, true, false, not, ◌&&◌, nat_lt, nat_le, ◌==◌, if◌then◌else◌, List, [], ◌∷◌, length, drop, slice_range, map, sum_by, All, IsTrue, ◌≤◌, Option, Some, None, option_map, unwrap_or, Result, Ok, Err, ℤ, pos, neg_ℤ, ◌+ℤ◌, ◌*ℤ◌, int_le}
 use Rattle.std.specs.Int.{cast_signed, from_be_bytes, w16}
+use Rattle.std.specs.List.{range_with_len}
 use Rattle.mc_packet.specs.declared.packet.Packet.{Packet}
 use Rattle.mc_ebml.specs.declared.read.Coded.{Coded}
 use Rattle.mc_ebml.specs.declared.read.EbmlError.{EbmlError}
@@ -132,3 +133,12 @@ packets_in place (Some body) = packets_of place body
 -- the packets of a BlockGroup
 unfoldable pub group_of : Place → List ℕ → Result (List Packet) BlockError
 group_of place body = group_body_of body >>= packets_in place
+
+-- what the packets of a block have in common: its track and place, lanes from 0 on, times in range, and
+-- payloads that take no more than the block's octets
+pub record AreOfBlock (place : Place) (octets : List ℕ) (packets : List Packet) : Type 0 where
+  pub tracks : All (λ (p : Packet). track_of octets ≡ Ok p.track) packets
+  pub blocks : All (λ (p : Packet). p.pos.block ≡ place.pos) packets
+  pub lanes : map (λ (p : Packet). p.pos.lane) packets ≡ range_with_len 0 (length packets)
+  pub times : All (λ (p : Packet). IsTrue (in_range p.time)) packets
+  pub payloads : sum_by (λ (p : Packet). length p.body) packets ≤ length octets

@@ -1,5 +1,5 @@
 -- The frames of a block (RFC 9559, section 10.3): where each begins and ends behind the block's flags.
-use Rattle.std.specs.Prelude.{ℕ, zero, suc, ◌+◌, ◌-◌, ◌*◌, ◌/◌, ◌%◌, ◌^◌, ◌≤◌, nat_lt, nat_le, ◌==◌, if◌then◌else◌, List, [], ◌∷◌, length, drop, sum, replicate, Option, Some, None, option_map, Result, Ok, Err, ℤ, pos, negsuc, ◌+ℤ◌, ◌-ℤ◌}
+use Rattle.std.specs.Prelude.{ℕ, zero, suc, ◌+◌, ◌-◌, ◌*◌, ◌/◌, ◌%◌, ◌^◌, ◌≤◌, ◌≡◌, nat_lt, nat_le, ◌==◌, if◌then◌else◌, List, [], ◌∷◌, length, drop, sum, replicate, Option, Some, None, option_map, Result, Ok, Err, ℤ, pos, negsuc, ◌+ℤ◌, ◌-ℤ◌}
 use Rattle.mc_ebml.specs.declared.read.Size.{Size}
 use Rattle.mc_ebml.specs.declared.read.Size.TheVariants.{Known, Unknown}
 use Rattle.mc_ebml.specs.declared.read.Coded.{Coded}
@@ -125,3 +125,13 @@ frames_of flags rest = frames_in (lacing_of flags) rest
 -- a frame lies in so many octets
 abbrev pub LiesIn : ℕ → ℕ × ℕ → Type 0
 LiesIn len span = (span.0 ≤ span.1) × (span.1 ≤ len)
+
+-- frames lie one behind another, from a place up to an end
+abbrev pub AreRun : ℕ → ℕ → List (ℕ × ℕ) → Type 0
+AreRun at stop [] = at ≡ stop
+AreRun at stop (span ∷ spans) = (span.0 ≡ at) × (at ≤ span.1) × (span.1 ≤ stop) × AreRun span.1 stop spans
+
+-- there is a frame, and the last ends where the octets do
+abbrev pub FillUp : ℕ → List (ℕ × ℕ) → Type 0
+FillUp len [] = ⊥
+FillUp len (span ∷ spans) = AreRun span.0 len (span ∷ spans)

@@ -1,7 +1,7 @@
 ghost use Rattle.std.specs.Prelude.{◌≡◌, ◌+◌, ◌-◌, ◌<◌, ◌≤◌, length, sum, nat_le, if◌then◌else◌, Ok, Err, All, IfOk, [], ◌∷◌, MatchBool, ◌≢◌};
 ghost use Rattle.mc_block.specs.declared.lace.Lacing.TheVariants.{Single};
 ghost use Rattle.mc_block.specs.declared.error.BlockError.TheVariants.{BadLace};
-ghost use Rattle.mc_block.specs.Frames.{lacing_of, laced, spans, frames_of, LiesIn};
+ghost use Rattle.mc_block.specs.Frames.{lacing_of, laced, spans, frames_in, frames_of, LiesIn, FillUp};
 ghost use Rattle.mc_block.specs.Block.{Gives};
 
 use crate::error::BlockError;
@@ -74,25 +74,6 @@ fn laced(alloc: Global, lacing: Lacing, rest: &[u8]) -> Result<FrameSpans, Block
     spans(alloc, sizes.as_slice(), 1 + taken, rest.len())
 }
 
-/// The frames of a block with these flags, in what stands behind them (RFC 9559, section 10.3):
-/// each begins where the one before it ends, and the last ends where the block does.
-///
-/// `BadLace` exactly where the number of frames or a size does not stand whole, a coded number
-/// begins with octet 0, the first size of an EBML lace is all ones, a size is negative, the sizes
-/// exceed what is left for the frames, or frames of one size do not fill it. Memory alone is the
-/// other refusal.
-#[tactic(auto, unfolding(crate::specs::Frames::frames_of))]
-pub fn frames(alloc: Global, flags: u8, rest: &[u8]) -> Result<FrameSpans, BlockError>
-    ensures value { Gives result (frames_of flags rest.now) }
-    ensures lie { IfOk result (All (LiesIn (length rest.now))) }
-    ensures few { IfOk result (λ frames. length frames ≤ 256) }
-{
-    match lacing_of(flags) {
-        Lacing::Single => single(alloc, rest.len()),
-        lacing => laced(alloc, lacing, rest),
-    }
-}
-
 // One frame.
 fn single(alloc: Global, len: usize) -> Result<FrameSpans, BlockError>
     ensures value { Gives result (Ok ((0, len) ∷ [])) }
@@ -102,4 +83,34 @@ fn single(alloc: Global, len: usize) -> Result<FrameSpans, BlockError>
     let mut frames = FrameSpans::new(alloc);
     frames.push((0, len))?;
     Ok(frames)
+}
+
+// The frames of a block of that lacing.
+fn frames_in(alloc: Global, lacing: Lacing, rest: &[u8]) -> Result<FrameSpans, BlockError>
+    ensures value { Gives result (frames_in lacing rest.now) }
+    ensures lie { IfOk result (All (LiesIn (length rest.now))) }
+    ensures few { IfOk result (λ frames. length frames ≤ 256) }
+{
+    match lacing {
+        Lacing::Single => single(alloc, rest.len()),
+        _ => laced(alloc, lacing, rest),
+    }
+}
+
+/// The frames of a block with these flags, in what stands behind them (RFC 9559, section 10.3):
+/// each begins where the one before it ends, and the last ends where the block does. There are at
+/// most 256.
+///
+/// `BadLace` exactly where the number of frames or a size does not stand whole, a coded number
+/// begins with octet 0, the first size of an EBML lace is all ones, a size is negative, the sizes
+/// exceed what is left for the frames, or frames of one size do not fill it. Memory alone is the
+/// other refusal.
+#[tactic(auto, unfolding(crate::specs::Frames::frames_of))]
+pub fn frames(alloc: Global, flags: u8, rest: &[u8]) -> Result<FrameSpans, BlockError>
+    ensures value { Gives result (frames_of flags rest.now) }
+    ensures fill { IfOk result (FillUp (length rest.now)) }
+    ensures lie { IfOk result (All (LiesIn (length rest.now))) }
+    ensures few { IfOk result (λ frames. length frames ≤ 256) }
+{
+    frames_in(alloc, lacing_of(flags), rest)
 }

@@ -1,6 +1,6 @@
 ghost use Rattle.std.specs.Prelude.{◌≡◌, ◌+◌, ◌<◌, ◌≤◌, ◌∷◌, ◌++◌, [], length, drop, Ok, Err, IfOk, All, ◌&&◌, ◌==◌};
 ghost use Rattle.mc_block.specs.Frames.{LiesIn};
-ghost use Rattle.mc_block.specs.Block.{Gives, is_key, packet_of, packets_from, packets_behind, packets_of, block_of, group_of};
+ghost use Rattle.mc_block.specs.Block.{Gives, is_key, packet_of, packets_from, packets_behind, packets_of, block_of, group_of, AreOfBlock};
 
 use crate::body::{block_head, simple_body};
 use crate::error::BlockError;
@@ -66,7 +66,8 @@ fn cut_packets(
 ) -> Result<Packets, BlockError>
     requires lie { All (LiesIn (length rest.now)) spans.now }
     requires few { length spans.now ≤ 256 }
-    ensures { Gives result (packets_from place.now head key rest.now 0 spans.now) }
+    ensures value { Gives result (packets_from place.now head key rest.now 0 spans.now) }
+    ensures count { IfOk result (λ packets. length packets ≡ length spans.now) }
 {
     let mut packets = Packets::new(alloc);
     for (lane, span) in spans.iter().enumerate() {
@@ -75,19 +76,30 @@ fn cut_packets(
     Ok(packets)
 }
 
-/// The packets of a block, one for each frame, in order; payloads are shared with the block.
+/// The packets of a block, one for each frame, in order; payloads are shared with the block. There
+/// are at most 256, all of the block's track and at its place, with lanes from 0 on and times in
+/// range.
 ///
 /// The first that holds is the fault: `ShortBlock` where its head does not stand whole, `BadLace`
 /// where its lace cannot be taken apart, and `TimeRange` where some frame's time lies outside plus
 /// or minus 2^62 nanoseconds. It may give `NoMemory`.
-#[tactic(auto, unfolding(crate::specs::Block::packets_of))]
 pub fn block_packets(alloc: Global, body: &BlockBody, place: Place) -> Result<Packets, BlockError>
     ensures value { Gives result (packets_of place body.now) }
+    ensures few { IfOk result (λ packets. length packets ≤ 256) }
+    ensures law { IfOk result (AreOfBlock place body.now.octets) }
+{
+    read_packets(alloc, body, &place)
+}
+
+#[tactic(auto, unfolding(crate::specs::Block::packets_of))]
+fn read_packets(alloc: Global, body: &BlockBody, place: &Place) -> Result<Packets, BlockError>
+    ensures value { Gives result (packets_of place.now body.now) }
+    ensures few { IfOk result (λ packets. length packets ≤ 256) }
 {
     let head = block_head(body.octets.as_slice())?;
     let rest = body.octets.slice(head.at..)?;
     let key = is_key(body.keyframe, head.flags);
-    packets_behind(alloc, &place, head, key, &rest)
+    packets_behind(alloc, place, head, key, &rest)
 }
 
 // The packets of what stands behind a head; without a lace it is one frame, which needs no list.
@@ -99,7 +111,8 @@ fn packets_behind(
     key: bool,
     rest: &Bytes,
 ) -> Result<Packets, BlockError>
-    ensures { Gives result (packets_behind place.now head key rest.now) }
+    ensures value { Gives result (packets_behind place.now head key rest.now) }
+    ensures few { IfOk result (λ packets. length packets ≤ 256) }
 {
     if !is_laced(head.flags) {
         return cut_packets(alloc, place, head, key, rest, &[(0, rest.len())]);

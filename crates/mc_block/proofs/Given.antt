@@ -1,0 +1,8 @@
+-- What holds of the value of a definition holds of a call that gives it.
+use Rattle.std.proofs.Common.{◌≡◌, Result, Ok, Err, IfOk, sym, subst}
+use Rattle.mc_block.specs.declared.error.BlockError.{BlockError}
+use Rattle.mc_block.specs.Block.{Gives}
+
+pub given : {X : Type 0} (P : X → Type 0) (r value : Result X BlockError) → Gives r value → IfOk value P → IfOk r P
+given P (Err e) value g h = tt
+given {X} P (Ok x) value g h = let Q : Result X BlockError → Type 0 = λ v. IfOk v P in subst Q g h

@@ -1,5 +1,6 @@
 use crate::{Refused, TracksError, default_choice, parse_ebml_header, parse_info, parse_tracks};
 use mc_packet::{Choice, Kind};
+use std::alloc::{AllocError, Global};
 use std::test::Fail;
 
 // The EBML header, Info and Tracks of a film of one VP9 and one Opus track.
@@ -38,7 +39,17 @@ fn reads_info(rt: HostRuntime) {
 }
 
 #[test]
-fn reads_tracks(rt: HostRuntime) -> Result<(), Fail> {
+fn lists_tracks(rt: HostRuntime) -> Result<(), Fail> {
+    let list = parse_tracks(rt.alloc(), &TRACKS, 39)?.copy()?;
+    assert_eq!(rt; list.len(), 2);
+    assert_eq!(rt; list.get(1).is_some(), true);
+    assert_eq!(rt; list.is_known(3), false);
+    assert_eq!(rt; list.of_kind(Kind::Sub, 1).is_none(), true);
+    Ok(())
+}
+
+#[test]
+fn chooses_tracks(rt: HostRuntime) -> Result<(), Fail> {
     let list = parse_tracks(rt.alloc(), &TRACKS, 39)?;
     let choice = Choice {
         video: Some(1),
@@ -46,14 +57,17 @@ fn reads_tracks(rt: HostRuntime) -> Result<(), Fail> {
         sub: None,
     };
     assert_eq!(rt; default_choice(&list), choice);
-    let list = list.copy()?;
-    assert_eq!(rt; list.len(), 2);
-    assert_eq!(rt; list.get(1).map(|track| track.kind), Some(Kind::Video));
-    assert_eq!(rt; list.is_known(3), false);
-    let audio = list.of_kind(Kind::Audio, 1);
-    assert_eq!(rt; audio.map(|track| track.codec.as_str()), Some("A_OPUS"));
-    assert_eq!(rt; audio.map(|track| track.language.as_str()), Some("eng"));
-    assert_eq!(rt; list.of_kind(Kind::Audio, 2).is_none(), true);
+    Ok(())
+}
+
+#[test]
+fn reads_texts(rt: HostRuntime) -> Result<(), Fail> {
+    let list = parse_tracks(rt.alloc(), &TRACKS, 39)?;
+    for track in list.as_slice() {
+        let codec = track.codec.as_str();
+        assert_eq!(rt; codec == "V_VP9" || codec == "A_OPUS", true);
+        assert_eq!(rt; track.language.as_str(), "eng");
+    }
     Ok(())
 }
 
@@ -62,24 +76,35 @@ fn refusal(rt: &HostRuntime, body: &[u8]) -> Option<TracksError> {
     parse_tracks(rt.alloc(), body, 39).err()
 }
 
+fn refused(r: Refused) -> Option<TracksError> {
+    Some(TracksError::Refused(r))
+}
+
 #[test]
-fn refuses_tracks(rt: HostRuntime) -> Result<(), Fail> {
-    let broken = TracksError::Refused(Refused::Broken(58));
-    assert_eq!(rt; refusal(&rt, &TRACKS[..38]), Some(broken));
+fn refuses_tracks(rt: HostRuntime) {
+    assert_eq!(rt; refusal(&rt, &TRACKS[..38]), refused(Refused::Broken(58)));
     let unnumbered = [0xAE, 0x83, 0x83, 0x81, 0x05];
-    let no_number = TracksError::Refused(Refused::NoNumber);
-    assert_eq!(rt; refusal(&rt, &unnumbered), Some(no_number));
-    let mut body = Vec::new(rt.alloc());
-    for number in 1..=65 {
-        body.append(&mut vec![in rt.alloc(); 0xAE, 0x86, 0xD7, 0x81, number, 0x83, 0x81, 0x11]?)?;
+    assert_eq!(rt; refusal(&rt, &unnumbered), refused(Refused::NoNumber));
+}
+
+// A body of so many subtitle tracks.
+fn subtitles(alloc: Global, numbers: &[u8]) -> Result<Vec<u8>, AllocError> {
+    let mut body = Vec::new(alloc);
+    for number in numbers {
+        body.append(&mut vec![in alloc; 0xAE, 0x86, 0xD7, 0x81, *number, 0x83, 0x81, 0x11]?)?;
     }
-    let too_many = TracksError::Refused(Refused::TooMany);
-    assert_eq!(rt; refusal(&rt, &body), Some(too_many));
-    body.truncate(8 * 64);
-    assert_eq!(rt; refusal(&rt, &body), None);
-    body.truncate(8);
-    body.append(&mut vec![in rt.alloc(); 0xAE, 0x86, 0xD7, 0x81, 1, 0x83, 0x81, 0x01]?)?;
-    let twice = TracksError::Refused(Refused::TwiceNumber);
-    assert_eq!(rt; refusal(&rt, &body), Some(twice));
+    Ok(body)
+}
+
+#[test]
+fn refuses_too_many(rt: HostRuntime) -> Result<(), Fail> {
+    let mut numbers = Vec::new(rt.alloc());
+    for number in 1..=65 {
+        numbers.push(number)?;
+    }
+    let many = subtitles(rt.alloc(), &numbers)?;
+    assert_eq!(rt; refusal(&rt, &many), refused(Refused::TooMany));
+    let twice = subtitles(rt.alloc(), &[1, 1])?;
+    assert_eq!(rt; refusal(&rt, &twice), refused(Refused::TwiceNumber));
     Ok(())
 }

@@ -23,3 +23,6 @@ pub use list::TrackList;
 pub use refused::{Refused, TracksError};
 pub use track::Track;
 pub use tracks::parse_tracks;
+
+#[cfg(test)]
+mod tests;

@@ -9,7 +9,7 @@ use Rattle.mc_block.specs.declared.parts.Place.{Place}
 use Rattle.mc_block.specs.declared.parts.BlockHead.{BlockHead}
 use Rattle.mc_block.specs.declared.parts.BlockBody.{BlockBody}
 use Rattle.mc_block.specs.Frames.{frames_of}
-use Rattle.mc_block.specs.Block.{head_of, frame_time, in_range, is_key, packet_of, and_packets, packets_from, packets_of}
+use Rattle.mc_block.specs.Block.{head_of, frame_time, in_range, is_key, packet_of, packets_from, packets_behind, packets_of}
 use Rattle.mc_block.specs.Block.{◌>>=◌ as ◌and_then◌}
 use Rattle.mc_walk.specs.Frames.{StandsBefore, InOrder}
 
@@ -24,8 +24,12 @@ IsFrom place lane p = (p.pos.block ≡ place) × (lane ≤ p.pos.lane)
 abbrev pub FramesFrom : ℕ → ℕ → List Packet → Type 0
 FramesFrom place lane ps = AllByRecursion (IsFrom place lane) ps × InOrder ps
 
+if_ok-then : {X Y : Type 0} (P : Y → Type 0) (r : Result X BlockError) (f : X → Result Y BlockError) → ((x : X) → IfOk (f x) P) → IfOk (r and_then f) P
+if_ok-then P (Ok x) f each = each x
+if_ok-then P (Err e) f each = tt
+
 and-frames : (p : Packet) (place lane : ℕ) (packets : Result (List Packet) BlockError) → p.pos.block ≡ place → p.pos.lane ≡ lane
-    → IfOk packets (FramesFrom place (lane + 1)) → IfOk (and_packets p packets) (FramesFrom place lane)
+    → IfOk packets (FramesFrom place (lane + 1)) → IfOk (packets and_then (λ ps. Ok (p ∷ ps))) (FramesFrom place lane)
 and-frames p place lane (Err e) at is frames = tt
 and-frames p place lane (Ok ps) at is frames = (
   ((at, omega arith), all-weaker (IsFrom place (lane + 1)) (IsFrom place lane) (λ q h. (h.0, omega arith)) ps frames.0),
@@ -36,13 +40,9 @@ packets_from-frames : (place : Place) (head : BlockHead) (key : Bool) (rest : Li
     → IfOk (packets_from place head key rest lane spans) (FramesFrom place.pos lane)
 packets_from-frames place head key rest lane [] = (tt, tt)
 packets_from-frames place head key rest lane (span ∷ spans) =
-    cond_both (in_range (frame_time place head.relative lane)) _ _ (λ packets. IfOk packets (FramesFrom place.pos lane))
-    (λ e. and-frames (packet_of place head key lane (slice_range rest span.0 span.1)) place.pos lane (packets_from place head key rest (lane + 1) spans) refl refl
+    cond_both (in_range (frame_time place head.relative lane)) _ _ (λ packet. IfOk (packet and_then (λ p. packets_from place head key rest (lane + 1) spans and_then (λ ps. Ok (p ∷ ps)))) (FramesFrom place.pos lane))
+    (λ e. and-frames _ place.pos lane (packets_from place head key rest (lane + 1) spans) refl refl
     (packets_from-frames place head key rest (lane + 1) spans)) (λ e. tt)
-
-if_ok-then : {X Y : Type 0} (P : Y → Type 0) (r : Result X BlockError) (f : X → Result Y BlockError) → ((x : X) → IfOk (f x) P) → IfOk (r and_then f) P
-if_ok-then P (Ok x) f each = each x
-if_ok-then P (Err e) f each = tt
 
 pub packets_of-frames : (place : Place) (body : BlockBody) → IfOk (packets_of place body) (FramesFrom place.pos 0)
 unfolding packets_of

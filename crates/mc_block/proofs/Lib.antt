@@ -5,3 +5,4 @@ pub mod Payloads
 pub mod Runs
 pub mod Laws
 pub mod Given
+pub mod Plain

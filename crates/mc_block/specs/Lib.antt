@@ -1,3 +1,4 @@
 pub mod Frames
 pub mod Group
 pub mod Block
+pub mod Written

@@ -10,7 +10,10 @@ mod lace;
 mod packets;
 mod parts;
 mod sizes;
+#[cfg(test)]
+mod tests;
 mod times;
+mod write;
 
 pub use body::{block_head, block_track, simple_body};
 pub use error::BlockError;
@@ -18,3 +21,4 @@ pub use group::group_body;
 pub use lace::frames;
 pub use packets::{block_packets, parse_block, parse_group};
 pub use parts::{BlockBody, BlockHead, FrameSpans, Place};
+pub use write::write_simple_block;

@@ -11,4 +11,4 @@ mod write;
 pub use read::{
     Coded, EbmlError, Head, Size, read_coded, read_head, read_id, read_size, read_text, read_uint,
 };
-pub use write::{NoMemory, write_coded, write_head, write_text, write_uint};
+pub use write::{NoMemory, coded_len, head_len, write_coded, write_head, write_text, write_uint};

@@ -120,11 +120,21 @@ pub fn write_coded(out: &mut Vec<u8>, n: u64) -> Result<(), NoMemory>
     requires { n < 2 ^ 56 }
     ensures ok { OnOk result (out.new.items ≡ out.old.items ++ coded_octets n) }
     ensures err { OnErr result (out.new.items ≡ out.old.items) }
-    ensures full { OnErr result (vec_capacity out.old < vec_len out.old + coded_width n) }
+    ensures full { OnErr result (vec_capacity out.old < vec_len out.old + length (coded_octets n)) }
     ensures capacity { vec_capacity out.old ≤ vec_capacity out.new }
     ensures reads_back { OnOk result (HasCoded out.old.items out.new.items n) }
 {
     push_marked(out, n, coded_width(n))
+}
+
+/// How many octets `write_coded` appends.
+#[tactic(auto, unfolding(crate::specs::Written::coded_octets))]
+pub fn coded_len(n: u64) -> usize
+    requires { n < 2 ^ 56 }
+    ensures value { result ≡ length (coded_octets n) }
+    ensures bounds { (1 ≤ result) × (result ≤ 8) }
+{
+    coded_width(n)
 }
 
 /// Appends the head of an element (RFC 8794, sections 5 and 6): its ID, and its size in the fewest
@@ -168,9 +178,9 @@ pub fn write_uint(out: &mut Vec<u8>, id: u32, n: u64) -> Result<(), NoMemory>
     push_number(out, n, width)
 }
 
-// How many octets a head takes.
+/// How many octets `write_head` appends.
 #[tactic(auto, unfolding(crate::specs::Written::head_octets))]
-fn head_len(id: u32, size: Size) -> usize
+pub fn head_len(id: u32, size: Size) -> usize
     requires { IsSize size }
     ensures value { result ≡ length (head_octets id size) }
     ensures small { result ≤ 16 }

@@ -1,13 +1,11 @@
-// A library with one function.
+//! A board with the last status of a demuxer, on which others look without entering its lock.
+//! It takes the statuses of one poster, and gives each who looks the first status or a posted
+//! one, never an older one than it saw: `NotNewer` of `specs/Statuses.antt`.
 #![tactic(auto)]
 
-ghost use Rattle.std.specs.Prelude.{◌≡◌};
-ghost use Rattle.mc_board.specs.Echo.{echo_of};
+mod board;
+mod law;
 
-// The `ensures` clause is the contract: what `echo` returns is `echo_of` of its argument, a definition
-// in `specs/Echo.antt`, which a caller's clause can cite too.
-pub fn echo(x: usize) -> usize
-    ensures { result ≡ echo_of x }
-{
-    x
-}
+pub use board::{Board, BoardPass, Poster};
+pub use mc_packet::NoMemory;
+

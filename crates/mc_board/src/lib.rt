@@ -9,3 +9,6 @@ mod law;
 pub use board::{Board, BoardPass, Poster};
 pub use mc_packet::NoMemory;
 
+
+#[cfg(test)]
+mod tests;

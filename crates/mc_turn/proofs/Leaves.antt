@@ -1,9 +1,9 @@
 -- The pass that is inside gives the value back, with entries of its own.
-use Rattle.std.proofs.Common.{◌≡◌, ◌≢◌, ℕ, ◌+◌, ◌<◌, List, [], ◌∷◌, ◌++◌, get_or, set, refl, sym, ◌∙◌, subst, inl, arith, Option, Some, length-set, get_or-set_same, get_or-set_other}
+use Rattle.std.proofs.Common.{◌≡◌, ◌≢◌, ℕ, ◌+◌, ◌<◌, List, [], ◌∷◌, ◌++◌, get_or, set, refl, ap, sym, ◌∙◌, subst, inl, arith, Option, Some, None, length-set, get_or-set_same, get_or-set_other}
 use mathlib.Core.Option.{some}
 use mathlib.Core.List.{IsPrefix}
 use lib.ListN.{get_elem?}
-use Rattle.atomic_table.specs.Table.{State, Me, gives, stepped, Allows}
+use Rattle.atomic_table.specs.Table.{State, Me, gives, rest, stepped, Allows}
 use Rattle.atomic_table.proofs.Lists.{set_here}
 use Rattle.mc_turn.specs.declared.view.View.{View}
 use Rattle.mc_turn.specs.declared.view.Part.{Part}
@@ -84,6 +84,8 @@ module _ {T E : Type 0} (kept : T → List (ℕ × E)) where
       → Allows (Ruled kept) slots id (v, (0, Some value) ∷ []) 1 (λ _. k + 1) (λ _ n. Gives kept (v, (0, Some value) ∷ []) n)
   leaves slots id k v value inside more s r long here _ = (view_of (kept value) v.numbers Out, gives, tt, given s r id k v value here inside more, refl)
 
-  pub leaves_as : (slots id k : ℕ) (m : Me (Option T) V) (v : V) (value : T) → m ≡ (v, (0, Some value) ∷ []) → v.stage ≡ Inside k → Extends v.numbers v.seen (kept value)
-      → Allows (Ruled kept) slots id m 1 (λ _. k + 1) (λ _ n. Gives kept m n)
-  leaves_as slots id k m v value is inside more = subst (λ (x : Me (Option T) V). Allows (Ruled kept) slots id x 1 (λ _. k + 1) (λ _ n. Gives kept x n)) (sym is) (leaves slots id k v value inside more)
+  -- as the slot is exchanged: what the pass held was the empty slot
+  pub leaves_as : (slots id k : ℕ) (m : Me (Option T) V) (v : V) (value : T) (held : List (ℕ × Option T)) → m ≡ (v, (0, Some value) ∷ rest held) → held ≡ (0, None) ∷ [] → v.stage ≡ Inside k
+      → Extends v.numbers v.seen (kept value) → Allows (Ruled kept) slots id m 1 (λ _. k + 1) (λ _ n. Gives kept m n)
+  leaves_as slots id k m v value held is empty inside more = let now : m ≡ (v, (0, Some value) ∷ []) = is ∙ ap (λ (l : List (ℕ × Option T)). (v, (0, Some value) ∷ rest l)) empty in
+      subst (λ (x : Me (Option T) V). Allows (Ruled kept) slots id x 1 (λ _. k + 1) (λ _ n. Gives kept x n)) (sym now) (leaves slots id k v value inside more)

@@ -1,5 +1,7 @@
 -- Rising lists of caller numbers: their parts, two in one, and the first numbers.
-use Rattle.std.proofs.Common.{◌≡◌, ◌≢◌, ℕ, zero, suc, ◌+◌, ◌<◌, ◌≤◌, ◌⊎◌, Bool, true, false, cond, leb, List, [], ◌∷◌, length, take, drop, refl, ap, inl, inr, ⊎_elim, arith}
+use Rattle.std.proofs.Common.{◌≡◌, ◌≢◌, ℕ, zero, suc, ◌+◌, ◌<◌, ◌≤◌, ◌⊎◌, Bool, true, false, cond, leb, List, [], ◌∷◌, length, take, drop, refl, ap, inl, inr, ⊎_elim, zero-le, arith}
+use mathlib.Core.Logic.{dite}
+use native.Mathlib.Decide.{ℕ_discrete}
 use Rattle.std.proofs.lemmas.Bool.{leb-true, leb-false}
 use Rattle.mc_turn.specs.Callers.{Has, Rising, count_from, placed, merged}
 
@@ -19,6 +21,12 @@ has_drop [] zero n h = h
 has_drop [] (suc k) n h = h
 has_drop (m ∷ ms) zero n h = h
 has_drop (m ∷ ms) (suc k) n h = inr (has_drop ms k n h)
+
+-- each number is in one of the two parts
+pub has_part : (ns : List ℕ) (k n : ℕ) → Has ns n → Has (take k ns) n ⊎ Has (drop k ns) n
+has_part [] k n h = absurd h
+has_part (m ∷ ms) zero n h = inr h
+has_part (m ∷ ms) (suc k) n h = ⊎_elim (λ e. inl (inl e)) (λ t. ⊎_elim (λ u. inl (inr u)) (λ u. inr u) (has_part ms k n t)) h
 
 pub rising_take : (ns : List ℕ) (k : ℕ) → Rising ns → Rising (take k ns)
 rising_take [] zero r = tt
@@ -101,6 +109,14 @@ has_from n (suc k) m h = ⊎_elim (λ (e : n ≡ m). omega arith) (λ t. let le 
 pub from_below : (n k m : ℕ) → Has (count_from n k) m → m < n + k
 from_below n zero m h = absurd h
 from_below n (suc k) m h = ⊎_elim (λ (e : n ≡ m). omega arith) (λ t. let lt : m < suc n + k = from_below (suc n) k m t in omega arith) h
+
+-- and each number from n on and below n + k is one of them
+from_has : (n k m : ℕ) → n ≤ m → m < n + k → Has (count_from n k) m
+from_has n zero m le lt = absurd (omega arith)
+from_has n (suc k) m le lt = dite (ℕ_discrete n m) (λ e. inl e) (λ ne. inr (from_has (suc n) k m (omega arith) (omega arith)))
+
+pub first_has : (k m : ℕ) → m < k → Has (count_from 0 k) m
+first_has k m lt = from_has 0 k m zero-le (omega arith)
 
 pub rising_from : (n k : ℕ) → Rising (count_from n k)
 rising_from n zero = tt

@@ -1,5 +1,5 @@
 -- A pass is split, two are joined, and the lock is new.
-use Rattle.std.proofs.Common.{◌≡◌, ◌≢◌, ℕ, zero, suc, ◌+◌, ◌^◌, ◌<◌, ◌≤◌, ◌⊎◌, Bool, true, false, cond, leb, List, [], ◌∷◌, length, get_or, set, take, drop, refl, ap, sym, ◌∙◌, subst, inl, inr, ⊎_elim, arith, Option, Some}
+use Rattle.std.proofs.Common.{◌≡◌, ◌≢◌, ℕ, zero, suc, ◌+◌, ◌^◌, ◌<◌, ◌≤◌, Bool, true, false, cond, leb, List, [], ◌∷◌, length, get_or, set, take, drop, refl, ap, sym, ◌∙◌, subst, inl, inr, ⊎_elim, arith, Option, Some}
 use mathlib.Core.Option.{some, some-injective, some-ne-none}
 use mathlib.Core.List.{IsPrefix}
 use lib.ListN.{get_elem?}
@@ -9,7 +9,7 @@ use Rattle.atomic_table.proofs.Lists.{at_set, set_else, at_longer}
 use Rattle.mc_turn.specs.declared.view.View.{View}
 use Rattle.mc_turn.specs.declared.view.Stage.TheVariants.{Out, Inside}
 use Rattle.mc_views.specs.Views.{Each, Apart}
-use Rattle.mc_turn.specs.Callers.{Has, Rising, count_from, merged, SameOwn}
+use Rattle.mc_turn.specs.Callers.{Has, Rising, merged, SameOwn}
 use Rattle.mc_turn.specs.Rule.{view_of, opened, spent, joined, Owns, Ticket, Fits, NotInside, AtHome, IsOut, Ruled, Cuts}
 use Rattle.mc_views.proofs.Views.{each_set, each_snoc, apart_less, apart_snoc, apart_join}
 use Rattle.mc_turn.proofs.Journals.{prefix_self, prefix_shorter, between}

@@ -3,7 +3,7 @@ use Rattle.std.proofs.Common.{◌≡◌, ℕ, zero, suc, length, ◌+◌, ◌-�
 use Rattle.atomic_table.specs.Table.{Me, rest}
 use Rattle.atomic_table.specs.Seated.{TableId}
 use Rattle.mc_turn.specs.declared.view.View.{View}
-use Rattle.mc_turn.specs.Callers.{SameOwn, count_from, merged}
+use Rattle.mc_turn.specs.Callers.{count_from, merged}
 use Rattle.mc_turn.specs.Passes.{known, longer, Seen}
 use mathlib.Core.List.{IsPrefix}
 use Rattle.std.proofs.lemmas.Bool.{leb-true, leb-false}

@@ -1,5 +1,5 @@
 -- What a caller of the lock sees of a pass, and what it knows of the value's journal.
-use Rattle.std.specs.Prelude.{◌≡◌, ℕ, Bool, cond, leb, List, length}
+use Rattle.std.specs.Prelude.{ℕ, Bool, cond, leb, List, length}
 use mathlib.Core.List.{IsPrefix}
 use Rattle.atomic_table.specs.Seated.{TableId}
 use Rattle.mc_turn.specs.Callers.{SameOwn}

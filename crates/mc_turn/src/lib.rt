@@ -16,3 +16,6 @@ pub use kept::Kept;
 pub use pass::Pass;
 pub use turn::{NoMemory, Turn};
 
+
+#[cfg(test)]
+mod tests;

@@ -9,6 +9,5 @@ mod law;
 pub use board::{Board, BoardPass, Poster};
 pub use mc_packet::NoMemory;
 
-
 #[cfg(test)]
 mod tests;

@@ -51,4 +51,3 @@ module _ {E : Type 0} where
   pub own_stays : (ns : List ℕ) (n : ℕ) (xs ys more : List (ℕ × E)) → xs ++ more ≡ ys → Bear ns more → (Has ns n → ⊥) → of_caller n xs ≡ of_caller n ys
   own_stays ns n xs ys more e bear not = sym (append-nil (of_caller n xs)) ∙ (ap (λ (l : List (ℕ × E)). of_caller n xs ++ l) (sym (none_of ns n more not bear))
       ∙ (sym (filter-append (λ (x : ℕ × E). eqb x.0 n) xs more) ∙ ap (of_caller n) e))
-

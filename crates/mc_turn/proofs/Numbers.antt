@@ -121,4 +121,3 @@ first_has k m lt = from_has 0 k m zero-le (omega arith)
 pub rising_from : (n k : ℕ) → Rising (count_from n k)
 rising_from n zero = tt
 rising_from n (suc k) = ((λ m h. has_from (suc n) k m h), rising_from (suc n) k)
-

@@ -16,6 +16,5 @@ pub use kept::Kept;
 pub use pass::Pass;
 pub use turn::{NoMemory, Turn};
 
-
 #[cfg(test)]
 mod tests;

@@ -39,14 +39,7 @@ impl Log {
 }
 
 // Adds an entry in a turn of its own.
-fn add<R: Wait>(
-    rt: &R,
-    turn: &Turn<Log>,
-    bell: &Bell,
-    pass: &mut Pass<Log>,
-    number: u32,
-    item: u64,
-)
+fn add<R: Wait>(rt: &R, turn: &Turn<Log>, bell: &Bell, pass: &mut Pass<Log>, number: u32, item: u64)
     requires lock { pass.old.lock ≡ turn.now }
     requires outside { pass.old.inside ≡ false }
     requires number { pass.old.numbers ≡ number ∷ [] }

@@ -1,28 +1,9 @@
 -- What a worker and a team of workers made.
-use Rattle.std.proofs.Common.{◌≡◌, ℕ, suc, ◌+◌, ◌⊎◌, Bool, true, false, cond, eq-eqb, List, [], ◌∷◌, ◌++◌, take, drop, refl, ap, sym, ◌∙◌, subst, ⊎_elim, arith}
-use mathlib.Core.List.{append-nil}
-use Rattle.mc_turn.specs.Callers.{of_caller, Has, Makes, merged}
+use Rattle.std.proofs.Common.{◌≡◌, ℕ, ◌⊎◌, Bool, true, false, List, [], ◌++◌, take, drop, refl, ap, sym, ◌∙◌, subst, ⊎_elim}
+use Rattle.mc_turn.specs.Callers.{of_caller, Has, merged}
 use Rattle.mc_turn.specs.Passes.{Known, Seen}
-use Rattle.mc_turn.proofs.Calls.{makes_none, makes_new, makes_then}
 use Rattle.mc_turn.proofs.Numbers.{has_part, merged_left, merged_right}
-use Rattle.turn_bench.specs.Work.{added, numbered, Made, Worked}
-
-own_added : (n item : ℕ) (done : Bool) → of_caller n (added done n item) ≡ added done n item
-own_added n item true = ap (λ (b : Bool). cond b ((n, item) ∷ []) []) (eq-eqb n n refl)
-own_added n item false = refl
-
--- one turn of a worker, in which it added its item k, or had no memory
-module _ (pass : Known ℕ) (n k : ℕ) (done : Bool) (start xs ys : List (ℕ × ℕ)) (before : Makes n (numbered n k) start pass.seen) (has : Has pass.numbers n) (seen : Seen pass xs) (e : ys ≡ xs ++ added done n k) where
-  adds : Makes n (numbered n k ++ added done n k) start ys
-  adds = makes_then n (numbered n k) (added done n k) start pass.seen ys before
-      (makes_then n [] (added done n k) pass.seen xs ys (makes_none pass n xs has seen) (subst (λ (l : List (ℕ × ℕ)). Makes n l xs ys) (own_added n k done) (makes_new n xs (added done n k) ys e)))
-
-  pub adds_item : done ≡ true → Makes n (numbered n (k + 1)) start ys
-  adds_item is = let next : suc k ≡ k + 1 = omega arith in
-      subst (λ (j : ℕ). Makes n (numbered n j) start ys) next (subst (λ (b : Bool). Makes n (numbered n k ++ added b n k) start ys) is adds)
-
-  pub adds_none : done ≡ false → Makes n (numbered n k) start ys
-  adds_none is = subst (λ (l : List (ℕ × ℕ)). Makes n l start ys) (append-nil (numbered n k)) (subst (λ (b : Bool). Makes n (numbered n k ++ added b n k) start ys) is adds)
+use Rattle.turn_bench.specs.Work.{numbered, Made, Worked}
 
 -- what a caller made, as the pass that took its own in has seen it
 through : (count n : ℕ) (a c : Bool) (before mine after : Known ℕ) (whole : List (ℕ × ℕ)) → mine.seen ≡ before.seen → (c ≡ true → a ≡ true) → Has mine.numbers n → Worked count a mine after → Seen after whole

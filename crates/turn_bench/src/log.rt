@@ -1,5 +1,6 @@
 ghost use Rattle.std.specs.Prelude.{◌≡◌, ◌++◌, min, ◌^◌, ◌-◌, length, [], true};
-ghost use Rattle.turn_bench.specs.Work.{added};
+ghost use Rattle.mc_turn.specs.Callers.{of_caller};
+ghost use Rattle.turn_bench.specs.Work.{added, numbered};
 
 use mc_turn::Kept;
 use std::alloc::Global;
@@ -38,11 +39,18 @@ impl Log {
     }
 
     /// Whether the items of the caller are 0, 1, 2 and so on, in this order.
-    pub fn is_in_order(&self, number: u32) -> bool {
-        self.entries
-            .iter()
-            .filter(|entry| entry.0 == number)
-            .enumerate()
-            .all(|(place, entry)| entry.1 == place as u64)
+    pub fn is_in_order(&self, number: u32) -> bool
+        ensures ordered { result ≡ true → (k : _) × (of_caller number self.now.entries.items ≡ numbered number k) }
+    {
+        let mut next = 0u64;
+        for entry in self.entries.iter() {
+            if entry.0 == number {
+                if entry.1 != next {
+                    return false;
+                }
+                next += 1;
+            }
+        }
+        true
     }
 }

@@ -45,12 +45,7 @@ pub fn post_all<R: Wait>(
 
 /// Looks so many times, once at least, and answers the last status seen. None is older than
 /// the one before it.
-pub fn watch<R: Wait>(
-    rt: &R,
-    board: &Board,
-    mut pass: BoardPass,
-    looks: u64,
-) -> (BoardPass, Status)
+pub fn watch<R: Wait>(rt: &R, board: &Board, mut pass: BoardPass, looks: u64) -> (BoardPass, Status)
     requires board { pass.board ≡ board.now }
     ensures board { result.0.board ≡ pass.board }
     ensures seen { Has result.0.seen result.1 }

@@ -1,0 +1,3 @@
+pub mod Teams
+pub mod Items
+pub mod Posts

@@ -1,5 +1,5 @@
 -- What a record tells of a packet, and a film's packets as they are told.
-use Rattle.std.specs.Prelude.{ℕ, ℤ, ◌==◌, nat_le, Bool, ◌&&◌, List, length, map}
+use Rattle.std.specs.Prelude.{ℕ, ℤ, ◌==◌, nat_le, Bool, ◌&&◌, List, length}
 use Rattle.std.specs.List.{filter}
 use Rattle.mc_packet.specs.Payload.{checksum}
 use Rattle.mc_packet.specs.declared.packet.Packet.{Packet}

@@ -1,7 +1,6 @@
 -- The whole reading of a film is legal, and each selected track has its end.
-use Rattle.std.proofs.Common.{◌≡◌, ℕ, ◌⊎◌, inl, inr, Bool, true, false, cond, ◌&&◌, ◌||◌, List, [], ◌∷◌, ◌++◌, Option, Some, None, Result, Ok, refl, sym, ap, ◌∙◌, subst, append_assoc, arith, eq-eqb}
+use Rattle.std.proofs.Common.{◌≡◌, ℕ, inl, inr, Bool, true, false, cond, List, [], ◌∷◌, ◌++◌, Option, Some, None, refl, sym, ap, ◌∙◌, subst, append_assoc, eq-eqb}
 use Rattle.std.specs.Prelude.{map, reverse, ◌==◌, nat_le}
-use Rattle.std.specs.List.{filter}
 use Rattle.std.proofs.lemmas.List.{append-nil, map-append}
 use Rattle.std.proofs.lemmas.List.Elements.{filter-append}
 use Rattle.std.proofs.lemmas.Bool.{cases_Bool}
@@ -11,15 +10,14 @@ use Rattle.std.proofs.Math.Bool.{or-true}
 use Rattle.mc_packet.specs.declared.packet.Packet.{Packet}
 use Rattle.mc_packet.specs.declared.walk.Ending.{Ending}
 use Rattle.mc_packet.specs.declared.choice.Choice.{Choice}
-use Rattle.mc_tracks.specs.declared.track.Track.{Track}
 use Rattle.mc_tracks.specs.TrackList.{default_choice_of}
 use Rattle.mc_film.specs.declared.whole.WholeFilm.{WholeFilm}
 use Rattle.mc_journal.specs.declared.record.DemuxRecord.{DemuxRecord}
 use Rattle.mc_journal.specs.declared.record.DemuxRecord.TheVariants.{Opened, Gave, Ended}
-use Rattle.mc_journal.specs.Told.{Told, told, gave_by, fresh, is_fresh}
-use Rattle.mc_journal.specs.Readings.{has, is_track, nothing, selected, read_from, given}
-use Rattle.mc_journal.specs.Legal.{IsFront, reading, GaveFronts, EndsWell, IsLegal}
-use Rattle.mc_play.specs.Reading.{is_chosen, gave_to_reader, given_of, rising, ended_to_reader, ends_of, whole_reading, journal_of, LegalFor, EndsEach}
+use Rattle.mc_journal.specs.Told.{Told, told, fresh, is_fresh}
+use Rattle.mc_journal.specs.Readings.{has, selected, read_from, given}
+use Rattle.mc_journal.specs.Legal.{reading, GaveFronts, IsLegal}
+use Rattle.mc_play.specs.Reading.{gave_to_reader, given_of, rising, ended_to_reader, ends_of, whole_reading, journal_of, LegalFor}
 use Rattle.mc_play.proofs.Onto.{onto, onto-append, reverse-is}
 
 from_zero : (track : ℕ) (h : List DemuxRecord) → read_from track h ≡ 0
@@ -41,10 +39,11 @@ record Holds (set : Choice) (before : List Packet) (h : List DemuxRecord) : Type
 
 fronts : (set : Choice) (ps before after : List Packet) (h : List DemuxRecord) → before ++ after ≡ ps → Holds set before h → GaveFronts (map told ps) h
 fronts set ps before after h parts holds = λ track is.
-    let mine : has set track ≡ true = let P : Choice → Type 0 = λ c. has c track ≡ true in subst P holds.chosen is in
-    (fresh track 0 (map told after),
+    let mine : has set track ≡ true = let P : Choice → Type 0 = λ c. has c track ≡ true in subst P holds.chosen is in (
+      fresh track 0 (map told after),
       ap (λ (x : List Told). x ++ fresh track 0 (map told after)) (holds.all track mine) ∙ sym (fresh-append track before after)
-      ∙ ap (λ (x : List Packet). fresh track 0 (map told x)) parts ∙ sym (reading-is (map told ps) track h))
+          ∙ ap (λ (x : List Packet). fresh track 0 (map told x)) parts ∙ sym (reading-is (map told ps) track h),
+    )
 
 -- ---- packets
 
@@ -60,10 +59,10 @@ gives : (set : Choice) (before : List Packet) (p : Packet) (h : List DemuxRecord
 gives set before p h holds = record {
   chosen = holds.chosen;
   all = λ track mine.
-    added track p (given track h) (p.track == track)
-    ∙ ap (λ (x : List Told). x ++ cond (p.track == track) (told p ∷ []) []) (holds.all track mine)
-    ∙ ap (λ (x : List Told). fresh track 0 (map told before) ++ x) (sym (one-fresh track p (p.track == track) refl))
-    ∙ sym (fresh-append track before (p ∷ []));
+      added track p (given track h) (p.track == track)
+      ∙ ap (λ (x : List Told). x ++ cond (p.track == track) (told p ∷ []) []) (holds.all track mine)
+      ∙ ap (λ (x : List Told). fresh track 0 (map told before) ++ x) (sym (one-fresh track p (p.track == track) refl))
+      ∙ sym (fresh-append track before (p ∷ []));
 }
 
 -- a track that is not selected is another one than each that is
@@ -78,9 +77,9 @@ passes : (set : Choice) (before : List Packet) (p : Packet) (h : List DemuxRecor
 passes set before p h isnt holds = record {
   chosen = holds.chosen;
   all = λ track mine.
-    holds.all track mine ∙ sym (append-nil (fresh track 0 (map told before)))
-    ∙ ap (λ (x : List Told). fresh track 0 (map told before) ++ x) (sym (one-fresh track p false (other set p.track track isnt mine)))
-    ∙ sym (fresh-append track before (p ∷ []));
+      holds.all track mine ∙ sym (append-nil (fresh track 0 (map told before)))
+      ∙ ap (λ (x : List Told). fresh track 0 (map told before) ++ x) (sym (one-fresh track p false (other set p.track track isnt mine)))
+      ∙ sym (fresh-append track before (p ∷ []));
 }
 
 record Read (set : Choice) (ps before : List Packet) (ending : Ending) (h : List DemuxRecord) : Type 0 where
@@ -98,11 +97,11 @@ all_given set ps ending (p ∷ after) before h parts r =
     let joined = more before after ps p parts in
     elim (cases_Bool (has set p.track)) [
       | inl e ↦
-        let next = gives set before p h r.holds in
-        let legal : IsLegal (map told ps) ending (gave_to_reader set p ∷ h) = (fronts set ps (before ++ p ∷ []) after (gave_to_reader set p ∷ h) joined next, tt, r.legal) in
-        rw e (all_given set ps ending after (before ++ p ∷ []) (gave_to_reader set p ∷ h) joined (record { holds = next; legal = legal }))
+          let next = gives set before p h r.holds in
+          let legal : IsLegal (map told ps) ending (gave_to_reader set p ∷ h) = (fronts set ps (before ++ p ∷ []) after (gave_to_reader set p ∷ h) joined next, tt, r.legal) in
+          rw e (all_given set ps ending after (before ++ p ∷ []) (gave_to_reader set p ∷ h) joined (record { holds = next; legal = legal }))
       | inr e ↦
-        rw e (all_given set ps ending after (before ++ p ∷ []) h joined (record { holds = passes set before p h e r.holds; legal = r.legal }))
+          rw e (all_given set ps ending after (before ++ p ∷ []) h joined (record { holds = passes set before p h e r.holds; legal = r.legal }))
     ]
 
 -- ---- ends
@@ -136,8 +135,10 @@ are_selected (Some v) (Some a) sub = by_order (nat_le v a)
   where
     first : has (choice (Some v) (Some a) sub) v ≡ true
     first = rw (same_track v) refl
+
     second : has (choice (Some v) (Some a) sub) a ≡ true
     second = rw (same_track a) (or-true (v == a))
+
     by_order : (b : Bool) → AreSelected (choice (Some v) (Some a) sub) (cond b (v ∷ a ∷ []) (a ∷ v ∷ []))
     by_order true = (first, (second, tt))
     by_order false = (second, (first, tt))
@@ -157,7 +158,7 @@ whole-reversed set ps ending = reverse-is (whole_reading set ps ending) ∙ onto
 whole_is_legal : (set : Choice) (ps : List Packet) (ending : Ending) → IsLegal (map told ps) ending (reverse (whole_reading set ps ending))
 whole_is_legal set ps ending =
     let r = all_ended set ps ending (rising set.video set.audio) (onto (given_of set ps) (Opened 0 set ∷ [])) (are_selected set.video set.audio set.sub)
-        (all_given set ps ending ps [] (Opened 0 set ∷ []) refl (is_opened set ps ending)) in
+    (all_given set ps ending ps [] (Opened 0 set ∷ []) refl (is_opened set ps ending)) in
     let P : List DemuxRecord → Type 0 = λ h. IsLegal (map told ps) ending h in
     subst P (sym (whole-reversed set ps ending)) r.legal
 

@@ -1,10 +1,10 @@
 -- A file read piece by piece.
-use Rattle.std.proofs.Common.{◌≡◌, ◌≢◌, ℕ, ◌+◌, ◌-◌, ◌<◌, ◌≤◌, min, Bool, true, false, List, [], ◌++◌, length, take, drop, Option, Some, None, refl, sym, ap, ◌∙◌, subst, arith, inl, inr, length-append}
+use Rattle.std.proofs.Common.{◌≡◌, ◌≢◌, ℕ, ◌+◌, ◌-◌, ◌<◌, ◌≤◌, min, List, [], ◌++◌, length, take, drop, Option, Some, None, refl, sym, ap, ◌∙◌, subst, arith, inl, inr, length-append}
 use Rattle.std.specs.Prelude.{◌==◌}
 use Rattle.std.proofs.lemmas.Bool.Decides.{eqb_tells}
 use Rattle.std.proofs.lemmas.List.{length-take, length-drop, take_all}
 use Rattle.std.proofs.Math.Seq.{take-add}
-use Rattle.mc_outside.specs.Shelf.{Files, Opened, ReadsFull, content}
+use Rattle.mc_outside.specs.Shelf.{Files, Opened, content}
 use Rattle.mc_play.specs.Content.{IsContent, IsPiece, IsFrontOf, IsSoFar}
 
 pub nothing_read : (c : Option (List ℕ)) → IsFrontOf c []

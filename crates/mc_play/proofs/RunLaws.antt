@@ -1,6 +1,6 @@
 -- What a run leaves is legal, and where all went well each selected track has its end.
-use Rattle.std.proofs.Common.{◌≡◌, ℕ, ◌⊎◌, inl, inr, Bool, true, false, cond, ◌||◌, List, [], ◌∷◌, ◌++◌, Option, Some, None, Result, Ok, refl, sym, ap, ◌∙◌, subst, append_assoc}
-use Rattle.std.specs.Prelude.{map, nat_le, ◌==◌}
+use Rattle.std.proofs.Common.{◌≡◌, ℕ, ◌⊎◌, inl, inr, Bool, true, false, cond, ◌||◌, List, [], ◌∷◌, ◌++◌, Option, Some, None, Result, Ok, sym, ap, ◌∙◌, subst, append_assoc}
+use Rattle.std.specs.Prelude.{map, nat_le}
 use Rattle.std.proofs.lemmas.List.{map-append}
 use Rattle.std.proofs.lemmas.Bool.Decides.{eqb_tells}
 use Rattle.mc_packet.specs.declared.packet.Packet.{Packet}
@@ -66,10 +66,10 @@ rising_has (Some v) (Some a) track is =
     elim (eqb_tells v track) [
       | inl e ↦ by_order (nat_le v a) (inl e.1)
       | inr e ↦
-        elim (eqb_tells a track) [
-          | inl f ↦ by_order (nat_le v a) (inr f.1)
-          | inr f ↦ absurd (let g : false ≡ true = rw (e.0, f.0) at is in cc)
-        ]
+          elim (eqb_tells a track) [
+            | inl f ↦ by_order (nat_le v a) (inr f.1)
+            | inr f ↦ absurd (let g : false ≡ true = rw (e.0, f.0) at is in cc)
+          ]
     ]
   where
     by_order : (b : Bool) → (v ≡ track) ⊎ (a ≡ track) → IsAmong track (cond b (v ∷ a ∷ []) (a ∷ v ∷ []))
@@ -87,10 +87,12 @@ reading_has : (set : Choice) (ps : List Packet) (ending : Ending) (track : ℕ) 
     → (before after : List DemuxRecord) × (whole_reading set ps ending ≡ before ++ ended_to_reader set ending track ∷ after)
 reading_has set ps ending track among =
     let ended : List ℕ → List DemuxRecord = λ tracks. map (ended_to_reader set ending) tracks in
-    let parts : ends_of set ending ≡ ended among.0 ++ ended_to_reader set ending track ∷ ended among.1 = ap ended among.2 ∙ map-append (ended_to_reader set ending) among.0 (track ∷ among.1) in
-    (Opened 0 set ∷ (given_of set ps ++ ended among.0), ended among.1,
+    let parts : ends_of set ending ≡ ended among.0 ++ ended_to_reader set ending track ∷ ended among.1 = ap ended among.2 ∙ map-append (ended_to_reader set ending) among.0 (track ∷ among.1) in (
+      Opened 0 set ∷ (given_of set ps ++ ended among.0),
+      ended among.1,
       ap (λ (x : List DemuxRecord). Opened 0 set ∷ x) (ap (λ (x : List DemuxRecord). given_of set ps ++ x) parts
-        ∙ sym (append_assoc (given_of set ps) (ended among.0) (ended_to_reader set ending track ∷ ended among.1))))
+          ∙ sym (append_assoc (given_of set ps) (ended among.0) (ended_to_reader set ending track ∷ ended among.1))),
+    )
 
 journal_ends : (film : WholeFilm) → EndsEach film (journal_of film)
 journal_ends film = λ track is.

@@ -9,4 +9,3 @@ mod journal;
 mod read;
 
 pub use command::run;
-

@@ -1,5 +1,4 @@
 use Rattle.std.proofs.Common.{◌≡◌, length, rules}
-use Rattle.mc_outside.specs.Shelf.{content}
 use Rattle.mc_play.proofs.Pieces.{piece_added}
 use Rattle.mc_play.proofs.read.read_more.Goals as goal
 

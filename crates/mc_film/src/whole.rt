@@ -94,6 +94,10 @@ fn read_whole(alloc: Global, plan: Plan) -> Result<WholeFilm, NoMemory>
 ///
 /// `Refused` exactly where what stands before the Clusters is refused (RFC 8794, section 11.2;
 /// RFC 9559, section 5.1). A cut or damaged film is no error: its ending says so.
+///
+/// The packets are the frames of the block elements that stand in the film up to its ending: each
+/// frame once, in file order, at the offset of its block's element. Read part by part, from mark
+/// to mark, the film has the same packets and ends in the same way.
 #[tactic(auto, unfolding(crate::specs::Film::film_of))]
 pub fn film_of_octets(alloc: Global, octets: Bytes) -> Result<WholeFilm, FilmError>
     ensures film { Gives result (film_of octets) }
@@ -104,7 +108,8 @@ pub fn film_of_octets(alloc: Global, octets: Bytes) -> Result<WholeFilm, FilmErr
     Ok(read_whole(alloc, plan)?)
 }
 
-/// The film that these octets are, over a copy of them.
+/// The film that these octets are, over a copy of them; of it holds what holds of
+/// `film_of_octets`.
 pub fn film(alloc: Global, bytes: &[u8]) -> Result<WholeFilm, FilmError>
     ensures film { Gives result (film_of bytes.now) }
     ensures frames { IfOk result (FilmIsItsFrames bytes.now) }

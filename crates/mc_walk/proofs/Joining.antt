@@ -1,6 +1,7 @@
 -- A film's parts, one behind the other, are the film.
 use Rattle.std.proofs.Common.{◌≡◌, ℕ, zero, suc, ◌-◌, ◌<◌, ◌≤◌, List, length, Option, Some, None, refl, sym, ap, ◌∙◌, arith}
-use Rattle.std.proofs.lemmas.Bool.{ne_eqb}
+use Rattle.std.proofs.lemmas.Bool.{ne_eqb, cond_both}
+use Rattle.std.specs.Prelude.{◌==◌}
 use Rattle.mc_packet.specs.declared.packet.Packet.{Packet}
 use Rattle.mc_packet.specs.declared.walk.Ending.{Ending}
 use Rattle.mc_packet.specs.declared.walk.Level.{Level}
@@ -9,7 +10,8 @@ use Rattle.mc_walk.specs.declared.plan.Plan.{Plan}
 use Rattle.mc_walk.specs.declared.plan.Step.{Step}
 use Rattle.mc_walk.specs.declared.plan.Step.TheVariants.{End, On}
 use Rattle.mc_walk.specs.Walk.{step_at, steps, walk, after, in_front, Rest, Rises}
-use Rattle.mc_walk.specs.Parts.{Part, part, part_after, part_at, place_of, level_of, joined, joined_after, opening_mark, PartsAreWhole}
+use Rattle.mc_walk.specs.Parts.{Part, part, part_after, part_at, place_of, level_of, joined, joined_after, opening_mark, PartsAreWhole, IsMark}
+use Rattle.mc_walk.specs.Parts.IsMark.{at_opening, at_end}
 use Rattle.mc_walk.proofs.Rising.{step-rises}
 use Rattle.mc_walk.proofs.Enough.{walk-enough, part-to, EndsOnward}
 
@@ -71,3 +73,14 @@ joined-walks (suc n) plan m in_film enough =
 
 pub parts-are-whole : (plan : Plan) → plan.opening ≤ length plan.octets → PartsAreWhole plan
 parts-are-whole plan in_film = joined-walks (steps plan) plan opening_mark in_film (omega arith)
+
+-- ---- marks
+
+place-lies : (plan : Plan) (m : Mark) → plan.opening ≤ length plan.octets → m.pos ≤ length plan.octets → place_of plan m ≤ length plan.octets
+place-lies plan m opens in_film = cond_both (m.pos == 0) plan.opening m.pos (λ place. place ≤ length plan.octets) (λ e. opens) (λ e. in_film)
+
+-- a mark from which the film can be read on stands for a place within it
+pub mark-lies : (plan : Plan) (m : Mark) → plan.opening ≤ length plan.octets → IsMark plan m → place_of plan m ≤ length plan.octets
+mark-lies plan m opens at_opening = opens
+mark-lies plan m opens (at_end before is) =
+    place-lies plan (part_at plan before).to opens (part-to (steps plan) plan (place_of plan before) (level_of before) (mark-lies plan before opens is)).1

@@ -1,5 +1,5 @@
 -- A film that is opened has its Segment's first child behind its first octet, and within its octets.
-use Rattle.std.proofs.Common.{◌≡◌, ℕ, zero, suc, ◌+◌, ◌<◌, ◌≤◌, List, length, Option, Some, None, Result, Ok, Err, arith}
+use Rattle.std.proofs.Common.{ℕ, zero, suc, ◌+◌, ◌<◌, ◌≤◌, List, length, Option, Some, None, Result, Ok, Err, arith}
 use Rattle.std.proofs.lemmas.Bool.{leb-true, cond_both}
 use Rattle.std.specs.Prelude.{IfOk, IfSome, nat_le, ◌==◌}
 use Rattle.mc_ebml.specs.declared.read.Head.{Head}
@@ -16,7 +16,7 @@ use Rattle.mc_tracks.specs.Header.{body_of, as_header, header_checked, ebml_head
 use Rattle.mc_tracks.specs.Ids.{EBML_HEADER, SEGMENT}
 use Rattle.mc_walk.specs.declared.plan.Plan.{Plan}
 use Rattle.mc_walk.specs.declared.plan.Segment.{Segment}
-use Rattle.mc_walk.specs.Opening.{end_by, skipped, segment_or, segment_from, segment_of, header_of, plan_of, opened_film}
+use Rattle.mc_walk.specs.Opening.{skipped, segment_or, segment_from, segment_of, header_of, plan_of, opened_film}
 use Rattle.mc_walk.proofs.Rising.{head-lies}
 
 if_ok-then : {X Y : Type 0} (P : X → Type 0) (Q : Y → Type 0) (r : Result X Refused) (f : X → Result Y Refused) → IfOk r P → ((x : X) → P x → IfOk (f x) Q) → IfOk (r >>= f) Q

@@ -2,7 +2,9 @@
 //! element's head, or a block's octets, and gives what the walk does there; `specs/Walk` says so
 //! over the whole film's octets, `specs/Opening` what stands before the Clusters, and
 //! `specs/Parts` what stands from one mark to the next. The whole-file reader and a reader on
-//! demand share all of it.
+//! demand share all of it. `specs/Frames` and `specs/Parts` also state the laws of the walk, which
+//! `proofs/Framing` and `proofs/Joining` prove: the packets are the frames of the film's block
+//! elements, each once and in order, and the parts from mark to mark, joined, are the film.
 #![tactic(auto)]
 
 mod element;

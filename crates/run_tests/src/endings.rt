@@ -22,7 +22,11 @@ const ENDINGS: [(usize, u8, usize, Ending); 7] = [
 fn one_octet_changed(rt: HostRuntime) -> Result<(), Fail> {
     for (at, octet, packets, ending) in ENDINGS {
         let film = changed(rt.alloc(), &PLAIN, PLAIN.len(), &[(at, octet)])?;
-        assert_eq!(rt; read(rt.alloc(), &film), Ok((packets, ending)), "octet {at}");
+        assert_eq!(rt;
+            read(rt.alloc(), &film),
+            Ok((packets, ending)),
+            "octet {at}"
+        );
     }
     Ok(())
 }
@@ -45,7 +49,11 @@ const REFUSALS: [(usize, Refused); 5] = [
 fn cut_before_the_clusters(rt: HostRuntime) -> Result<(), Fail> {
     for (len, refused) in REFUSALS {
         let film = changed(rt.alloc(), &PLAIN, len, &[])?;
-        assert_eq!(rt; read(rt.alloc(), &film), Err(FilmError::Refused(refused)), "cut to {len}");
+        assert_eq!(rt;
+            read(rt.alloc(), &film),
+            Err(FilmError::Refused(refused)),
+            "cut to {len}"
+        );
     }
     Ok(())
 }

@@ -25,7 +25,10 @@ fn no_film(rt: HostRuntime) -> Result<(), Fail> {
     let alloc = rt.alloc();
     let words = ["run", "film.mkv"];
     let nothing = Vec::new(alloc);
-    assert_eq!(rt; ran(alloc, &words, &EMPTY, None, None)?, (Exit::File(Refused::NotEbml), nothing));
+    assert_eq!(rt;
+        ran(alloc, &words, &EMPTY, None, None)?,
+        (Exit::File(Refused::NotEbml), nothing)
+    );
     let (exit, text) = ran(alloc, &["run", "nosuch"], &PLAIN, None, None)?;
     assert_eq!(rt; exit, Exit::Shelf(ShelfCause::NoFile { word: 1 }));
     assert_eq!(rt; text.len(), 0);
@@ -54,11 +57,23 @@ fn changed_films(rt: HostRuntime) -> Result<(), Fail> {
     let cut = changed(alloc, &PLAIN, 225, &[])?;
     assert!(rt; prints(alloc, &cut, lines(17), "end 1 cut 221\nend 2 cut 221\n")?);
     let laced = changed(alloc, &PLAIN, PLAIN.len(), &[(91, 0x82)])?;
-    assert!(rt; prints(alloc, &laced, "", "end 1 damaged 86 BadLace\nend 2 damaged 86 BadLace\n")?);
+    assert!(rt;
+        prints(
+            alloc,
+            &laced,
+            "",
+            "end 1 damaged 86 BadLace\nend 2 damaged 86 BadLace\n"
+        )?
+    );
     let early = changed(alloc, &PLAIN, PLAIN.len(), &[(89, 0xFF), (90, 0xFB)])?;
     let (exit, text) = ran(alloc, &["run", "film.mkv"], &early, None, None)?;
     assert_eq!(rt; exit, Exit::Done);
-    assert!(rt; begins_with(&text, b"give 1 at 86.0 time -5000000 len 1 sum 16 sync\ngive 2 at 93.0 "));
+    assert!(rt;
+        begins_with(
+            &text,
+            b"give 1 at 86.0 time -5000000 len 1 sum 16 sync\ngive 2 at 93.0 "
+        )
+    );
     Ok(())
 }
 
@@ -76,7 +91,10 @@ fn another_track(rt: HostRuntime) -> Result<(), Fail> {
 fn reads_that_fail(rt: HostRuntime) -> Result<(), Fail> {
     for at in 0..228 {
         let (exit, text) = ran(rt.alloc(), &["run", "film.mkv"], &PLAIN, Some(at), None)?;
-        let rose = Exit::Shelf(ShelfCause::Rose { before: 0, after: 1 });
+        let rose = Exit::Shelf(ShelfCause::Rose {
+            before: 0,
+            after: 1,
+        });
         assert_eq!(rt; (exit, text.len()), (rose, 0), "spot at {at}");
     }
     Ok(())

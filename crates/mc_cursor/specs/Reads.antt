@@ -1,8 +1,8 @@
 -- What reads on demand find of a film.
-use Rattle.std.specs.Prelude.{◌≡◌, ℕ, ◌+◌, Bool, nat_lt, nat_le, ◌==◌, if◌then◌else◌, List, length, slice_range, Option, Some, None, Result, Ok, Err}
+use Rattle.std.specs.Prelude.{◌≡◌, ℕ, ◌+◌, ◌^◌, ◌<◌, ⊤, [], ◌∷◌, Bool, nat_lt, nat_le, ◌==◌, if◌then◌else◌, List, length, slice_range, Option, Some, None, Result, Ok, Err}
 use Rattle.mc_ebml.specs.declared.read.Head.{Head}
 use Rattle.mc_ebml.specs.declared.read.EbmlError.{EbmlError}
-use Rattle.mc_ebml.specs.Element.{head_at}
+use Rattle.mc_ebml.specs.Element.{head_at, IsSmall}
 use Rattle.mc_cursor.specs.declared.reading.Found.{Found}
 use Rattle.mc_cursor.specs.declared.reading.Found.TheVariants as found
 
@@ -18,6 +18,17 @@ moved_by place (Err e) = Err e
 abbrev pub found_by : Result Head EbmlError → Found
 found_by (Ok h) = found.Element h
 found_by (Err e) = found.Bad e
+
+-- what stands at a place from which these octets were read
+abbrev pub found_in : List ℕ → ℕ → Found
+found_in [] place = found.End
+found_in (b ∷ bs) place = found_by (moved_by place (head_at (b ∷ bs) 0))
+
+-- an element's body begins behind its place, and before place 2^63
+abbrev pub Lies : ℕ → Found → Type 0
+Lies place found.End = ⊤
+Lies place (found.Element h) = (place < h.body) × (h.body < 2 ^ 63) × IsSmall h.size
+Lies place (found.Bad e) = ⊤
 
 -- what stands at a place of a film
 abbrev pub found_at : List ℕ → ℕ → Found

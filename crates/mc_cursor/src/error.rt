@@ -4,7 +4,7 @@ ghost use Rattle.mc_cursor.specs.declared.error.OpenError.TheVariants as refusal
 
 use mc_outside::ReadFault;
 use mc_tracks::Refused;
-use std::alloc::AllocError;
+use std::alloc::{AllocError, AllocFailed};
 
 /// Why a cursor gave nothing. It stands where it stood, so that the call can be made again.
 #[derive(Clone, Copy, Debug, PartialEq, Eq)]
@@ -36,6 +36,14 @@ impl From<AllocError> for CursorError {
     ghost from_gives = { λ _ e. e ≡ failures.NoMemory };
 
     fn from(_e: AllocError) -> CursorError {
+        CursorError::NoMemory
+    }
+}
+
+impl<T: Drop> From<AllocFailed<T>> for CursorError {
+    ghost from_gives = { λ _ e. e ≡ failures.NoMemory };
+
+    fn from(_e: AllocFailed<T>) -> CursorError {
         CursorError::NoMemory
     }
 }

@@ -5,7 +5,7 @@ use Rattle.std.proofs.lemmas.List.{take_all, drop_all, length-take-le}
 use Rattle.std.proofs.lemmas.Bool.Decides.{nat_tests, eqb_tells}
 use Rattle.mc_ebml.specs.Element.{head_at}
 use Rattle.mc_outside.specs.Shelf.{Files, Opened, content, octets_under, ReadsFull, AreShort, KeepsRead}
-use Rattle.mc_cursor.specs.Reads.{found_in, found_at, found_by, moved_by, reaches, part_of}
+use Rattle.mc_cursor.specs.Reads.{found_in, found_at, found_by, moved_by}
 use Rattle.mc_cursor.proofs.Heads.{head_window}
 
 -- a told file ends before place 2^63

@@ -1,2 +1,4 @@
 pub mod Reads
 pub mod Causes
+pub mod Standing
+pub mod Steps

@@ -1,5 +1,5 @@
 -- What reads on demand find of a film.
-use Rattle.std.specs.Prelude.{◌≡◌, ℕ, ◌+◌, ◌^◌, ◌<◌, ⊤, [], ◌∷◌, Bool, nat_lt, nat_le, ◌==◌, if◌then◌else◌, List, length, slice_range, Option, Some, None, Result, Ok, Err}
+use Rattle.std.specs.Prelude.{◌≡◌, ℕ, ◌+◌, ◌^◌, ◌<◌, ⊤, [], ◌∷◌, Bool, nat_lt, ◌==◌, if◌then◌else◌, List, length, slice_range, Option, Some, None, Result, Ok, Err}
 use Rattle.mc_ebml.specs.declared.read.Head.{Head}
 use Rattle.mc_ebml.specs.declared.read.EbmlError.{EbmlError}
 use Rattle.mc_ebml.specs.Element.{head_at, IsSmall}
@@ -34,10 +34,10 @@ Lies place (found.Bad e) = ⊤
 abbrev pub found_at : List ℕ → ℕ → Found
 found_at octets place = if place == length octets then found.End else found_by (head_at octets place)
 
--- whether a film reaches so far
-abbrev pub reaches : List ℕ → ℕ → Bool
-reaches octets stop = nat_le stop (length octets)
+-- whether a film ends before a place
+abbrev pub ends_before : List ℕ → ℕ → Bool
+ends_before octets stop = nat_lt (length octets) stop
 
 -- the octets of a film from one place to another, where it reaches so far
 abbrev pub part_of : List ℕ → ℕ → ℕ → Option (List ℕ)
-part_of octets at stop = if reaches octets stop then Some (slice_range octets at stop) else None
+part_of octets at stop = if ends_before octets stop then None else Some (slice_range octets at stop)

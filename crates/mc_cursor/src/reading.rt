@@ -3,7 +3,7 @@ ghost use Rattle.mc_ebml.specs.Element.{head_at};
 ghost use Rattle.mc_outside.specs.Causes.{HasCause};
 ghost use Rattle.mc_outside.specs.Shelf.{KeepsRead, content};
 ghost use Rattle.mc_cursor.specs.Causes.{ReadCause};
-ghost use Rattle.mc_cursor.specs.Reads.{Told, found_in, found_at, Lies, reaches, part_of};
+ghost use Rattle.mc_cursor.specs.Reads.{Told, found_in, found_at, Lies, ends_before, part_of};
 
 use crate::error::CursorError;
 use bytes::Bytes;
@@ -63,24 +63,24 @@ pub(crate) fn read_found<S: Shelf>(
     Ok(found_in_front(&front[..count], place))
 }
 
-/// Whether a film, which reaches up to `at`, reaches up to `stop`. It reads the last octet before
-/// `stop`, and none where there is none.
-pub(crate) fn read_reaches<S: Shelf>(
+/// Whether a film, which reaches up to `at`, ends before `stop`. It reads the last octet before
+/// `stop`, and none where `stop` is `at`.
+pub(crate) fn read_ends_before<S: Shelf>(
     shelf: &mut S,
     file: FileNo,
     at: u64,
     stop: u64,
 ) -> Result<bool, ReadFault>
     requires { at ≤ stop }
-    ensures value { IfOk result (λ b. Told (content (S.files shelf.old) (S.opened shelf.old) file.0) (λ octets. at ≤ length octets → b ≡ reaches octets stop)) }
+    ensures value { IfOk result (λ b. Told (content (S.files shelf.old) (S.opened shelf.old) file.0) (λ octets. at ≤ length octets → b ≡ ends_before octets stop)) }
     ensures cause { HasCause (S.faults shelf.old) (S.faults shelf.new) result }
     ensures kept { KeepsRead (S.files shelf.old) (S.files shelf.new) (S.opened shelf.old) (S.opened shelf.new) (S.reach shelf.old) (S.reach shelf.new) stop }
 {
     if at == stop {
-        return Ok(true);
+        return Ok(false);
     }
     let mut last = [0u8; 1];
-    Ok(read_full(shelf, file, stop - 1, &mut last)? == 1)
+    Ok(read_full(shelf, file, stop - 1, &mut last)? == 0)
 }
 
 /// The octets of a film from `at`, up to which it reaches, to `stop`; `None` where it does not

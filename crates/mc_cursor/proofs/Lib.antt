@@ -1,3 +1,5 @@
 pub mod Heads
 pub mod Windows
 pub mod Long
+pub mod Turning
+pub mod Stepping

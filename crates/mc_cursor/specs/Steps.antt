@@ -14,7 +14,7 @@ use Rattle.mc_walk.specs.declared.movement.Move.TheVariants as moves
 use Rattle.mc_walk.specs.declared.movement.Role.{Role}
 use Rattle.mc_walk.specs.declared.movement.Role.TheVariants as roles
 use Rattle.mc_walk.specs.Blocks.{block_element_of}
-use Rattle.mc_walk.specs.Moves.{settle, last_of, move_of}
+use Rattle.mc_walk.specs.Moves.{settle, last_of, move_of, StartsBehind}
 use Rattle.mc_walk.specs.Walk.{stands_at, moved, blocked, time_of}
 use Rattle.mc_cursor.specs.declared.reading.Found.{Found}
 use Rattle.mc_cursor.specs.declared.reading.Found.TheVariants as found
@@ -70,11 +70,20 @@ abbrev pub GoesOn : ℕ → Step → Type 0
 GoesOn place (End ending) = ⊤
 GoesOn place (On to level block) = place < to
 
+-- it stands within so many octets
+abbrev pub TurnStarts : ℕ → ℕ → Turn → Type 0
+TurnStarts place len (turns.Ends ending) = ⊤
+TurnStarts place len (turns.Moves movement) = StartsBehind place len movement
+
 -- how far a move may read
 abbrev pub asked_by : Move → ℕ
 asked_by (moves.Fault fault) = 0
 asked_by (moves.Enter to level) = 0
 asked_by (moves.Pass role at stop level) = stop
+
+abbrev pub asked_for : Turn → ℕ
+asked_for (turns.Ends ending) = 0
+asked_for (turns.Moves movement) = asked_by movement
 
 -- a step that goes on reads at most 12 octets behind the place to which it goes
 abbrev pub ReadsUpTo : Step → ℕ → ℕ → Type 0

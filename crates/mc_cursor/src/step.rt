@@ -8,7 +8,7 @@ ghost use Rattle.mc_walk.specs.Walk.{stamped, blocked, time_of, moved, step_at};
 ghost use Rattle.mc_cursor.specs.Causes.{ReadCause, Keeps};
 ghost use Rattle.mc_cursor.specs.Reads.{Told, found_at, Lies};
 ghost use Rattle.mc_cursor.specs.Standing.{plan_for};
-ghost use Rattle.mc_cursor.specs.Steps.{bad_ending, turn_of, turned, LeadsOn, TurnsOn, GoesOn, IsBlock, block_turn, asked_by, ReadsUpTo};
+ghost use Rattle.mc_cursor.specs.Steps.{bad_ending, turn_of, turned, LeadsOn, TurnsOn, GoesOn, IsBlock, block_turn, TurnStarts, asked_for, ReadsUpTo};
 
 use crate::cursor::Cursor;
 use crate::error::CursorError;
@@ -229,5 +229,78 @@ impl Cursor {
         } else {
             Ok(Step::End(Ending::Damaged(place, Fault::TooLarge)))
         }
+    }
+    // What an element's head asks for.
+    fn pass<S: Shelf>(
+        &self,
+        shelf: &mut S,
+        place: u64,
+        role: Role,
+        at: u64,
+        stop: u64,
+        level: Level,
+    ) -> Result<Step, CursorError>
+        requires { (place < at) × (at ≤ stop) }
+        ensures value { IfOk result (λ s. Told (content (S.files shelf.old) (S.opened shelf.old) self.now.file.0) (λ octets. at ≤ length octets → s ≡ moved (plan_for octets self.now) place (moves.Pass role at stop level))) }
+        ensures onward { IfOk result (GoesOn place) }
+        ensures cause { ReadCause (S.faults shelf.old) (S.faults shelf.new) result }
+        ensures kept { KeepsRead (S.files shelf.old) (S.files shelf.new) (S.opened shelf.old) (S.opened shelf.new) (S.reach shelf.old) (S.reach shelf.new) stop }
+    {
+        let size = stop - at;
+        match role {
+            Role::Other => self.pass_other(shelf, place, at, stop, level),
+            Role::Timestamp if size > 8 => self.pass_long_time(shelf, place, at, stop, level),
+            Role::Timestamp => self.pass_time(shelf, place, at, stop, level),
+            _ if size > LARGEST => self.pass_large_block(shelf, place, role, at, stop, level),
+            _ => self.pass_block(shelf, place, role, at, stop, level),
+        }
+    }
+
+    fn follow<S: Shelf>(
+        &self,
+        shelf: &mut S,
+        place: u64,
+        turn: Turn,
+    ) -> Result<Step, CursorError>
+        requires { TurnsOn place turn }
+        ensures value { IfOk result (λ s. Told (content (S.files shelf.old) (S.opened shelf.old) self.now.file.0) (λ octets. TurnStarts place (length octets) turn → s ≡ turned (plan_for octets self.now) place turn)) }
+        ensures onward { IfOk result (GoesOn place) }
+        ensures cause { ReadCause (S.faults shelf.old) (S.faults shelf.new) result }
+        ensures kept { KeepsRead (S.files shelf.old) (S.files shelf.new) (S.opened shelf.old) (S.opened shelf.new) (S.reach shelf.old) (S.reach shelf.new) (asked_for turn) }
+    {
+        match turn {
+            Turn::Ends(ending) => Ok(Step::End(ending)),
+            Turn::Moves(Move::Fault(fault)) => Ok(Step::End(Ending::Damaged(place, fault))),
+            Turn::Moves(Move::Enter { to, level }) => Ok(Step::On {
+                to,
+                level,
+                block: None,
+            }),
+            Turn::Moves(Move::Pass {
+                role,
+                at,
+                stop,
+                level,
+            }) => self.pass(shelf, place, role, at, stop, level),
+        }
+    }
+
+    /// One step of the walk, at a place of the film. It reads the head there, and then at most up to
+    /// where the element ends.
+    pub(crate) fn step<S: Shelf>(
+        &self,
+        shelf: &mut S,
+        place: u64,
+        level: Level,
+    ) -> Result<Step, CursorError>
+        ensures value { IfOk result (λ s. Told (content (S.files shelf.old) (S.opened shelf.old) self.now.file.0) (λ octets. place ≤ length octets → s ≡ step_at (plan_for octets self.now) place level)) }
+        ensures onward { IfOk result (GoesOn place) }
+        ensures cause { ReadCause (S.faults shelf.old) (S.faults shelf.new) result }
+        ensures kept { Keeps (S.files shelf.old) (S.files shelf.new) (S.opened shelf.old) (S.opened shelf.new) (S.reach shelf.old) (S.reach shelf.new) }
+        ensures reach { Told (content (S.files shelf.old) (S.opened shelf.old) self.now.file.0) (λ octets. place ≤ length octets → ReadsUpTo (step_at (plan_for octets self.now) place level) (S.reach shelf.old) (S.reach shelf.new)) }
+    {
+        let found = read_found(shelf, self.file, place)?;
+        let turn = next_turn(self.segment_end, place, level, found);
+        self.follow(shelf, place, turn)
     }
 }

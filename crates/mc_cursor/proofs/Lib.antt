@@ -3,3 +3,4 @@ pub mod Windows
 pub mod Long
 pub mod Turning
 pub mod Stepping
+pub mod Chunks

@@ -1,7 +1,13 @@
-ghost use Rattle.std.specs.Prelude.{◌≡◌, ◌<◌};
+ghost use Rattle.std.specs.Prelude.{◌≡◌, ◌<◌, ◌≤◌, max, List, length, Some, IfOk, OnErr};
+ghost use Rattle.mc_outside.specs.Shelf.{content};
+ghost use Rattle.mc_walk.specs.Parts.{level_of, part_at, chunk_at};
+ghost use Rattle.mc_cursor.specs.Causes.{ReadCause, Keeps};
+ghost use Rattle.mc_cursor.specs.Reads.{Told};
 
-use mc_outside::FileNo;
-use mc_packet::Mark;
+use crate::error::CursorError;
+use mc_outside::{FileNo, Shelf};
+use mc_packet::{Chunk, Ending, Level, Mark, Packets};
+use mc_walk::Step;
 use mc_tracks::TrackList;
 use std::alloc::Global;
 
@@ -24,16 +30,18 @@ pub struct Cursor {
 }
 
 impl Cursor {
+    ghost use Rattle.mc_cursor.specs.Standing.{plan_for, StandsFor, start_of, tracks_of, scale_of, mark_of, file_of, at_mark, ReadsPart};
+
     /// The film's tracks.
     pub fn tracks(&self) -> &TrackList
-        ensures { result.now ≡ self.now.tracks }
+        ensures { result.now ≡ tracks_of self.now }
     {
         &self.tracks
     }
 
     /// Nanoseconds in a unit of the film's times, at least 1 (RFC 9559, section 5.1.2.9).
     pub fn scale(&self) -> u64
-        ensures value { result ≡ self.now.scale }
+        ensures value { result ≡ scale_of self.now }
         ensures positive { 0 < result }
     {
         self.scale
@@ -41,8 +49,71 @@ impl Cursor {
 
     /// Where the cursor stands.
     pub fn mark(&self) -> Mark
-        ensures { result ≡ self.now.mark }
+        ensures { result ≡ mark_of self.now }
     {
         self.mark
+    }
+    // The place from which it reads on.
+    fn start(&self) -> u64
+        ensures value { result ≡ start_of self.now }
+        ensures positive { 0 < result }
+    {
+        if self.mark.pos == 0 {
+            self.opening
+        } else {
+            self.mark.pos
+        }
+    }
+
+    fn start_level(&self) -> Level
+        ensures { result ≡ level_of self.now.mark }
+    {
+        if self.mark.pos == 0 {
+            Level::Segment
+        } else {
+            self.mark.level
+        }
+    }
+
+    // The part from the cursor's mark on.
+    fn read_chunk<S: Shelf>(&self, shelf: &mut S) -> Result<Chunk, CursorError>
+        ensures value { IfOk result (λ k. Told (content (S.files shelf.old) (S.opened shelf.old) self.now.file.0) (λ octets. StandsFor octets self.now → k ≡ chunk_at (plan_for octets self.now) self.now.mark)) }
+        ensures bounds { IfOk result (λ k. (k.from ≡ self.now.mark) × (0 < k.to.pos)) }
+        ensures cause { ReadCause (S.faults shelf.old) (S.faults shelf.new) result }
+        ensures kept { Keeps (S.files shelf.old) (S.files shelf.new) (S.opened shelf.old) (S.opened shelf.new) (S.reach shelf.old) (S.reach shelf.new) }
+        ensures reach { Told (content (S.files shelf.old) (S.opened shelf.old) self.now.file.0) (λ octets. StandsFor octets self.now → ReadsPart (part_at (plan_for octets self.now) self.now.mark) (S.reach shelf.old) (S.reach shelf.new)) }
+    {
+        let mut place = self.start();
+        let mut level = self.start_level();
+        loop {
+            match self.step(shelf, place, level)? {
+                Step::End(ending) => {
+                    let none = Packets::new(self.alloc);
+                    return Ok(self.chunk_to(place, level, none, Some(ending)));
+                }
+                Step::On {
+                    to,
+                    level: inner,
+                    block,
+                } => {
+                    if let Some(packets) = block {
+                        return Ok(self.chunk_to(to, inner, packets, None));
+                    }
+                    place = to;
+                    level = inner;
+                }
+            }
+        }
+    }
+
+    fn chunk_to(&self, pos: u64, level: Level, packets: Packets, ending: Option<Ending>) -> Chunk
+        ensures { result ≡ record { from = self.now.mark; to = record { pos = pos; level = level }; packets = packets; ending = ending } }
+    {
+        Chunk {
+            from: self.mark,
+            to: Mark { pos, level },
+            packets,
+            ending,
+        }
     }
 }

@@ -4,3 +4,4 @@ pub mod Long
 pub mod Turning
 pub mod Stepping
 pub mod Chunks
+pub mod Standing

@@ -1,6 +1,6 @@
-ghost use Rattle.std.specs.Prelude.{◌≡◌, ◌<◌, ◌≤◌, max, List, length, Some, IfOk, OnErr};
+ghost use Rattle.std.specs.Prelude.{◌≡◌, ◌<◌, ◌≤◌, max, ℕ, List, length, Some, IfOk, OnErr};
 ghost use Rattle.mc_outside.specs.Shelf.{content};
-ghost use Rattle.mc_walk.specs.Parts.{level_of, part_at, chunk_at};
+ghost use Rattle.mc_walk.specs.Parts.{level_of, part_at, chunk_at, IsMark};
 ghost use Rattle.mc_cursor.specs.Causes.{ReadCause, Keeps};
 ghost use Rattle.mc_cursor.specs.Reads.{Told};
 
@@ -53,6 +53,34 @@ impl Cursor {
     {
         self.mark
     }
+    /// Stands at another mark. The cursor stands for the same films as before, where the mark is one
+    /// of theirs; else nothing is known of what it reads, but that its calls end.
+    pub fn goto(&mut self, mark: Mark)
+        ensures value { self.new ≡ at_mark self.old mark }
+        ensures stands { (octets : List ℕ) → StandsFor octets self.old → IsMark (plan_for octets self.old) mark → StandsFor octets self.new }
+    {
+        self.mark = mark;
+    }
+
+    /// Reads from the mark on to just past the next SimpleBlock or BlockGroup of any track, or,
+    /// where none follows, to the film's ending, which is answered again by each later call. The
+    /// cursor then stands at the chunk's end.
+    ///
+    /// `ReadFault` comes only where the shelf's count of faults rose in this call, or stands at
+    /// its last value. After an error the cursor stands where it stood.
+    pub fn next_chunk<S: Shelf>(&mut self, shelf: &mut S) -> Result<Chunk, CursorError>
+        ensures value { IfOk result (λ k. Told (content (S.files shelf.old) (S.opened shelf.old) (file_of self.old)) (λ octets. StandsFor octets self.old → (k ≡ chunk_at (plan_for octets self.old) (mark_of self.old)) × StandsFor octets self.new)) }
+        ensures moves { IfOk result (λ k. (k.from ≡ mark_of self.old) × (self.new ≡ at_mark self.old k.to)) }
+        ensures err { OnErr result (self.new ≡ self.old) }
+        ensures cause { ReadCause (S.faults shelf.old) (S.faults shelf.new) result }
+        ensures kept { Keeps (S.files shelf.old) (S.files shelf.new) (S.opened shelf.old) (S.opened shelf.new) (S.reach shelf.old) (S.reach shelf.new) }
+        ensures reach { Told (content (S.files shelf.old) (S.opened shelf.old) (file_of self.old)) (λ octets. StandsFor octets self.old → ReadsPart (part_at (plan_for octets self.old) (mark_of self.old)) (S.reach shelf.old) (S.reach shelf.new)) }
+    {
+        let chunk = self.read_chunk(shelf)?;
+        self.mark = chunk.to;
+        Ok(chunk)
+    }
+
     // The place from which it reads on.
     fn start(&self) -> u64
         ensures value { result ≡ start_of self.now }

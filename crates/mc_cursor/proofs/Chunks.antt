@@ -3,7 +3,7 @@ use Rattle.std.proofs.Common.{◌≡◌, ℕ, zero, suc, ◌+◌, ◌-◌, ◌<�
 use Rattle.mc_packet.specs.declared.packet.Packet.{Packet}
 use Rattle.mc_packet.specs.declared.walk.Ending.{Ending}
 use Rattle.mc_packet.specs.declared.walk.Level.{Level}
-use Rattle.mc_outside.specs.Shelf.{Files, Opened, content}
+use Rattle.mc_outside.specs.Shelf.{Files, Opened, content, KeepsRead}
 use Rattle.mc_walk.specs.declared.plan.Plan.{Plan}
 use Rattle.mc_walk.specs.declared.plan.Step.{Step}
 use Rattle.mc_walk.specs.declared.plan.Step.TheVariants.{End, On}
@@ -25,6 +25,9 @@ keeps_none f o r = record { same_files = refl; same_opened = refl; further = ome
 pub keeps_more : (f f' f'' : Option Files) (o o' o'' : Opened) (r r' r'' : ℕ) → Keeps f f' o o' r r' → Keeps f' f'' o' o'' r' r'' → Keeps f f'' o o'' r r''
 keeps_more f f' f'' o o' o'' r r' r'' k l =
     record { same_files = l.same_files ∙ k.same_files; same_opened = l.same_opened ∙ k.same_opened; further = omega (arith, k.further, l.further) }
+
+pub keeps_read : (f f' : Option Files) (o o' : Opened) (r r' a : ℕ) → KeepsRead f f' o o' r r' a → Keeps f f' o o' r r'
+keeps_read f f' o o' r r' a k = record { same_files = k.same_files; same_opened = k.same_opened; further = k.later }
 
 pub told_later : (f f' : Option Files) (o o' : Opened) (r r' file : ℕ) (octets : List ℕ) → Keeps f f' o o' r r' → content f o file ≡ Some octets → content f' o' file ≡ Some octets
 told_later f f' o o' r r' file octets k told = cc (k.same_files, k.same_opened, told)
@@ -93,18 +96,18 @@ reach_by : (octets : List ℕ) (cursor : Cursor) (place : ℕ) (level : Level) (
     → (step : Step) → step ≡ step_at (plan_for octets cursor) place level → ReadsUpTo step now after → ReadsPart (part_at (plan_for octets cursor) cursor.mark) before after
 reach_by octets cursor place level before now after so_far (End ending) step reads = λ none.
     let e : (part_at (plan_for octets cursor) cursor.mark).ending ≡ Some ending =
-        ap (λ (p : Part). p.ending) (sym so_far.same ∙ part_ends (plan_for octets cursor) place level ending step) in
+    ap (λ (p : Part). p.ending) (sym so_far.same ∙ part_ends (plan_for octets cursor) place level ending step) in
     absurd (cc (e, none))
 reach_by octets cursor place level before now after so_far (On to inner None) step reads = λ none.
     let rises = rises_to (plan_for octets cursor) place to level inner None step so_far.within in
     let onward = part-to (steps (plan_for octets cursor)) (plan_for octets cursor) to inner rises.1 in
     let e : (part_at (plan_for octets cursor) cursor.mark).to.pos ≡ (part (steps (plan_for octets cursor)) (plan_for octets cursor) to inner).to.pos =
-        ap (λ (p : Part). p.to.pos) (sym so_far.same ∙ part_goes_on (plan_for octets cursor) place to level inner step so_far.within) in
+    ap (λ (p : Part). p.to.pos) (sym so_far.same ∙ part_goes_on (plan_for octets cursor) place to level inner step so_far.within) in
     omega (arith, so_far.near, reads, rises.0, onward.0, e)
 reach_by octets cursor place level before now after so_far (On to inner (Some packets)) step reads = λ none.
     let rises = rises_to (plan_for octets cursor) place to level inner (Some packets) step so_far.within in
     let e : (part_at (plan_for octets cursor) cursor.mark).to.pos ≡ to =
-        ap (λ (p : Part). p.to.pos) (sym so_far.same ∙ part_gives (plan_for octets cursor) place to level inner packets step) in
+    ap (λ (p : Part). p.to.pos) (sym so_far.same ∙ part_gives (plan_for octets cursor) place to level inner packets step) in
     omega (arith, so_far.near, reads, rises.0, e)
 
 pub so_far_reach : (octets : List ℕ) (cursor : Cursor) (place : ℕ) (level : Level) (before now after : ℕ) → SoFar octets cursor place level before now

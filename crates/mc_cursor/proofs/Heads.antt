@@ -101,7 +101,7 @@ size_join : (id at : ℕ) (n : Result Coded EbmlError) → (n >>= size_behind at
 size_join id at (Ok n) = refl
 size_join id at (Err e) = refl
 
-head_join : (octets : List ℕ) (at : ℕ) → head_at octets at ≡ headed_by (id_from at (drop at octets)) octets
+pub head_join : (octets : List ℕ) (at : ℕ) → head_at octets at ≡ headed_by (id_from at (drop at octets)) octets
 unfolding head_at id_at size_at coded_at
 head_join octets at = by_id (id_from at (drop at octets))
   where

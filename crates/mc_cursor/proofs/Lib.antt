@@ -5,3 +5,5 @@ pub mod Turning
 pub mod Stepping
 pub mod Chunks
 pub mod Standing
+pub mod Fronts
+pub mod Finding

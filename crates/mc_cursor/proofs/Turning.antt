@@ -102,7 +102,7 @@ turn_by_head segment_end place len level (Err e) lies = cond_both (stands_at seg
 turn_by_head segment_end place len level (Ok h) lies =
     cond_both (stands_at segment_end place) _ _ (TurnStarts place len) (λ e. tt)
     (λ e. starts_behind place len h.body (move_of segment_end (settle level place) h.id h.body h.size) lies.0 lies.1
-        (moves_on segment_end (reenter (settle level place) h.id) h.id h.body h.size))
+    (moves_on segment_end (reenter (settle level place) h.id) h.id h.body h.size))
 
 pub turn_starts : (segment_end : Option ℕ) (octets : List ℕ) (place : ℕ) (level : Level) → place ≤ length octets
     → TurnStarts place (length octets) (turn_of segment_end place level (found_at octets place))
@@ -145,4 +145,4 @@ pub step_reach : (plan : Plan) (place : ℕ) (level : Level) (before now : ℕ) 
     → ReadsUpTo (step_at plan place level) before now
 step_reach plan place level before now within h =
     rw (step_found plan place level) (turned_reach plan place (length plan.octets) (turn_of plan.segment_end place level (found_at plan.octets place)) before now
-        (turn_starts plan.segment_end plan.octets place level within) h)
+    (turn_starts plan.segment_end plan.octets place level within) h)

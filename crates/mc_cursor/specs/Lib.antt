@@ -2,3 +2,4 @@ pub mod Reads
 pub mod Causes
 pub mod Standing
 pub mod Steps
+pub mod Begins

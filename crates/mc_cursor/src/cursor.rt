@@ -7,8 +7,8 @@ ghost use Rattle.mc_cursor.specs.Reads.{Told};
 use crate::error::CursorError;
 use mc_outside::{FileNo, Shelf};
 use mc_packet::{Chunk, Ending, Level, Mark, Packets};
-use mc_walk::Step;
 use mc_tracks::TrackList;
+use mc_walk::Step;
 use std::alloc::Global;
 
 /// A place in a film, from which it is read on as it is asked for. It knows the film's header, and

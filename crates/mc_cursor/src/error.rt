@@ -3,7 +3,7 @@ ghost use Rattle.mc_cursor.specs.declared.error.CursorError.TheVariants as failu
 ghost use Rattle.mc_cursor.specs.declared.error.OpenError.TheVariants as refusals;
 
 use mc_outside::ReadFault;
-use mc_tracks::Refused;
+use mc_tracks::{Refused, TracksError};
 use std::alloc::{AllocError, AllocFailed};
 
 /// Why a cursor gave nothing. It stands where it stood, so that the call can be made again.
@@ -69,5 +69,31 @@ impl From<Refused> for OpenError {
 
     fn from(r: Refused) -> OpenError {
         OpenError::Refused(r)
+    }
+}
+
+impl From<CursorError> for OpenError {
+    ghost use Rattle.mc_cursor.specs.Begins.{open_error};
+
+    ghost from_gives = { λ c e. e ≡ open_error c };
+
+    fn from(e: CursorError) -> OpenError {
+        match e {
+            CursorError::ReadFault => OpenError::ReadFault,
+            CursorError::NoMemory => OpenError::NoMemory,
+        }
+    }
+}
+
+impl From<TracksError> for OpenError {
+    ghost use Rattle.mc_cursor.specs.Begins.{refusal};
+
+    ghost from_gives = { λ t e. e ≡ refusal t };
+
+    fn from(e: TracksError) -> OpenError {
+        match e {
+            TracksError::Refused(r) => OpenError::Refused(r),
+            TracksError::NoMemory => OpenError::NoMemory,
+        }
     }
 }

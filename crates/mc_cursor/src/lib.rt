@@ -3,6 +3,7 @@
 
 mod cursor;
 mod error;
+mod opening;
 mod reading;
 mod step;
 

@@ -1,4 +1,4 @@
-ghost use Rattle.std.specs.Prelude.{◌≡◌, ◌+◌, ◌-◌, ◌^◌, ◌<◌, ◌≤◌, length, Option, IfOk, IfSome, IsTrue};
+ghost use Rattle.std.specs.Prelude.{◌≡◌, ◌+◌, ◌-◌, ◌^◌, ◌<◌, ◌≤◌, length, take, Option, IfOk, IfSome, IsTrue};
 ghost use Rattle.mc_ebml.specs.Element.{head_at};
 ghost use Rattle.mc_outside.specs.Causes.{HasCause};
 ghost use Rattle.mc_outside.specs.Shelf.{KeepsRead, content};
@@ -105,4 +105,21 @@ pub(crate) fn read_part<S: Shelf>(
         return Ok(None);
     }
     Ok(Some(Bytes::from_vec(body)?))
+}
+
+/// The first octets of a film, at most so many.
+pub(crate) fn read_front<S: Shelf>(
+    alloc: Global,
+    shelf: &mut S,
+    file: FileNo,
+    size: u64,
+) -> Result<Vec<u8>, CursorError>
+    ensures value { IfOk result (λ v. Told (content (S.files shelf.old) (S.opened shelf.old) file.0) (λ octets. v.items ≡ take size octets)) }
+    ensures cause { ReadCause (S.faults shelf.old) (S.faults shelf.new) result }
+    ensures kept { KeepsRead (S.files shelf.old) (S.files shelf.new) (S.opened shelf.old) (S.opened shelf.new) (S.reach shelf.old) (S.reach shelf.new) size }
+{
+    let mut front = vec![in alloc; 0u8; size as usize]?;
+    let count = read_full(shelf, file, 0, front.as_mut_slice())?;
+    front.truncate(count);
+    Ok(front)
 }

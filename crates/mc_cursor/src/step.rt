@@ -173,7 +173,15 @@ impl Cursor {
         ensures onward { place < stop → IfOk result (GoesOn place) }
     {
         let time = cluster_time(level);
-        match block_element(self.alloc, &self.tracks, self.scale, place, time, role, body) {
+        match block_element(
+            self.alloc,
+            &self.tracks,
+            self.scale,
+            place,
+            time,
+            role,
+            body,
+        ) {
             Ok(packets) => Ok(Step::On {
                 to: stop,
                 level,
@@ -256,12 +264,7 @@ impl Cursor {
         }
     }
 
-    fn follow<S: Shelf>(
-        &self,
-        shelf: &mut S,
-        place: u64,
-        turn: Turn,
-    ) -> Result<Step, CursorError>
+    fn follow<S: Shelf>(&self, shelf: &mut S, place: u64, turn: Turn) -> Result<Step, CursorError>
         requires { TurnsOn place turn }
         ensures value { IfOk result (λ s. Told (content (S.files shelf.old) (S.opened shelf.old) self.now.file.0) (λ octets. TurnStarts place (length octets) turn → s ≡ turned (plan_for octets self.now) place turn)) }
         ensures onward { IfOk result (GoesOn place) }
@@ -276,12 +279,14 @@ impl Cursor {
                 level,
                 block: None,
             }),
-            Turn::Moves(Move::Pass {
-                role,
-                at,
-                stop,
-                level,
-            }) => self.pass(shelf, place, role, at, stop, level),
+            Turn::Moves(
+                Move::Pass {
+                    role,
+                    at,
+                    stop,
+                    level,
+                },
+            ) => self.pass(shelf, place, role, at, stop, level),
         }
     }
 

@@ -28,7 +28,7 @@ returns-in-End-clause-value g c = λ octets told stands.
     let so_far = c.loop-ending.invariant.told octets told stands in
     let told' = told_later _ _ _ _ _ _ c.args.self.now.file.0 octets c.loop-ending.invariant.kept told in
     let step : End c.in-End.ending ≡ step_at (plan_for octets c.args.self.now) c.loop-ending.place c.loop-ending.level =
-        sym c.in-End.is ∙ c.in_ok-ending.ensures.value octets told' so_far.within in
+    sym c.in-End.is ∙ c.in_ok-ending.ensures.value octets told' so_far.within in
     c.chunk_to.ensures ∙ rw c.new-none.ensures (so_far_ends octets c.args.self.now c.loop-ending.place c.loop-ending.level c.in-End.ending _ _ so_far step)
 
 pub returns-in-Some-clause-value : goal.returns-in-Some-clause-value
@@ -37,7 +37,7 @@ returns-in-Some-clause-value g c = λ octets told stands.
     let told' = told_later _ _ _ _ _ _ c.args.self.now.file.0 octets c.loop-ending.invariant.kept told in
     let on = c.in-On in
     let step : On on.to on.inner (Some c.in-Some.packets) ≡ step_at (plan_for octets c.args.self.now) c.loop-ending.place c.loop-ending.level =
-        ap (On on.to on.inner) (sym c.in-Some.is) ∙ sym on.is ∙ c.in_ok-ending.ensures.value octets told' so_far.within in
+    ap (On on.to on.inner) (sym c.in-Some.is) ∙ sym on.is ∙ c.in_ok-ending.ensures.value octets told' so_far.within in
     c.chunk_to-in-Some.ensures
     ∙ so_far_gives octets c.args.self.now c.loop-ending.place on.to c.loop-ending.level on.inner c.in-Some.packets _ _ so_far step
 
@@ -50,9 +50,9 @@ loop-ending-preserved g c =
       kept = keeps_more _ _ _ _ _ _ _ _ _ c.loop-ending.invariant.kept c.step.ensures.kept;
       positive = omega (arith, onward);
       told = λ octets told stands.
-        let so_far = c.loop-ending.invariant.told octets told stands in
-        let told' = told_later _ _ _ _ _ _ c.args.self.now.file.0 octets c.loop-ending.invariant.kept told in
-        let step : On on.to on.inner None ≡ step_at (plan_for octets c.args.self.now) c.loop-ending.place c.loop-ending.level =
-            ap (On on.to on.inner) (sym c.in_default.is) ∙ sym on.is ∙ c.in_ok-ending.ensures.value octets told' so_far.within in
-        so_far_goes_on octets c.args.self.now c.loop-ending.place on.to c.loop-ending.level on.inner _ _ _ so_far step (c.step.ensures.reach octets told' so_far.within);
+          let so_far = c.loop-ending.invariant.told octets told stands in
+          let told' = told_later _ _ _ _ _ _ c.args.self.now.file.0 octets c.loop-ending.invariant.kept told in
+          let step : On on.to on.inner None ≡ step_at (plan_for octets c.args.self.now) c.loop-ending.place c.loop-ending.level =
+          ap (On on.to on.inner) (sym c.in_default.is) ∙ sym on.is ∙ c.in_ok-ending.ensures.value octets told' so_far.within in
+          so_far_goes_on octets c.args.self.now c.loop-ending.place on.to c.loop-ending.level on.inner _ _ _ so_far step (c.step.ensures.reach octets told' so_far.within);
     }

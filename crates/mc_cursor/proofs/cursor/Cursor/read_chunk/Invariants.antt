@@ -13,7 +13,7 @@ invariant-loop-ending g l = record {
   kept : Keeps (g.S.Shelf.files l.initial.shelf) (g.S.Shelf.files l.shelf) (g.S.Shelf.opened l.initial.shelf) (g.S.Shelf.opened l.shelf) (g.S.Shelf.reach l.initial.shelf) (g.S.Shelf.reach l.shelf);
   positive : 0 < l.place;
   told : Told (content (g.S.Shelf.files l.initial.shelf) (g.S.Shelf.opened l.initial.shelf) l.self.file.0)
-    (λ octets. StandsFor octets l.self → SoFar octets l.self l.place l.level (g.S.Shelf.reach l.initial.shelf) (g.S.Shelf.reach l.shelf));
+      (λ octets. StandsFor octets l.self → SoFar octets l.self l.place l.level (g.S.Shelf.reach l.initial.shelf) (g.S.Shelf.reach l.shelf));
 }
 
 abbrev pub decreases-loop-ending : goal.decreases-loop-ending

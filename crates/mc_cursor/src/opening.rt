@@ -1,0 +1,155 @@
+ghost use Rattle.std.specs.Prelude.{◌≡◌, ◌+◌, ◌-◌, ◌^◌, ◌<◌, ◌≤◌, max, length, slice_range, Option, Ok, IsErrOf, IfOk, IfSome};
+ghost use Rattle.mc_ebml.specs.Element.{IsSmall};
+ghost use Rattle.mc_outside.specs.Causes.{HasCause};
+ghost use Rattle.mc_outside.specs.Shelf.{content};
+ghost use Rattle.mc_tracks.specs.Children.{element_at, whole_element};
+ghost use Rattle.mc_cursor.specs.declared.reading.Found.TheVariants as found;
+ghost use Rattle.mc_tracks.specs.Header.{ebml_header_of};
+ghost use Rattle.mc_walk.specs.Opening.{end_by, segment_of, segment_child, first_child, info_in, tracks_in, header_of};
+ghost use Rattle.mc_cursor.specs.Causes.{Keeps};
+ghost use Rattle.mc_cursor.specs.Reads.{Told, Lies, found_at};
+ghost use Rattle.mc_cursor.specs.Begins.{BeginCause, Gives, header_span, stop_of, FoundIn, head_in, whole_found};
+
+use crate::error::OpenError;
+use crate::reading::{Found, read_ends_before, read_found, read_front, read_part};
+use mc_ebml::{Head, Size};
+use mc_outside::{FileNo, ReadFault, Shelf};
+use mc_tracks::{Child, Refused, TrackList, ids, parse_ebml_header, parse_info, parse_tracks};
+use mc_walk::{Header, Segment};
+use std::alloc::Global;
+
+// How many octets tell whether a film begins with an EBML header, and what it says.
+fn header_size(found: Found) -> u64
+    requires { Lies 0 found }
+    ensures { result ≡ header_span found }
+{
+    match found {
+        Found::Element(head) if head.id == ids::EBML_HEADER => {
+            let stop = match head.size {
+                Size::Known(size) => head.body as u64 + size,
+                Size::Unknown => head.body as u64,
+            };
+            stop.max(12)
+        }
+        _ => 12,
+    }
+}
+
+fn header_in(front: &[u8]) -> Result<usize, OpenError>
+    ensures value { Gives result (ebml_header_of front.now) }
+    ensures pure { ¬ IsErrOf result OpenError.ReadFault }
+{
+    Ok(parse_ebml_header(front)?)
+}
+
+/// The offset behind the EBML header.
+pub(crate) fn read_ebml_header<S: Shelf>(
+    alloc: Global,
+    shelf: &mut S,
+    file: FileNo,
+) -> Result<usize, OpenError>
+    ensures value { Told (content (S.files shelf.old) (S.opened shelf.old) file.0) (λ octets. Gives result (ebml_header_of octets)) }
+    ensures cause { BeginCause (S.faults shelf.old) (S.faults shelf.new) result }
+    ensures kept { Keeps (S.files shelf.old) (S.files shelf.new) (S.opened shelf.old) (S.opened shelf.new) (S.reach shelf.old) (S.reach shelf.new) }
+{
+    let found = read_found(shelf, file, 0)?;
+    let front = read_front(alloc, shelf, file, header_size(found))?;
+    header_in(front.as_slice())
+}
+
+// Where a body ends, if its size is known.
+fn end_of(at: usize, size: Size) -> Option<u64>
+    requires fits { at < 2 ^ 63 }
+    requires small { IsSmall size }
+    ensures { result ≡ end_by at size }
+{
+    match size {
+        Size::Known(size) => Some(at as u64 + size),
+        Size::Unknown => None,
+    }
+}
+
+// The element at a place whose head was read, where its size is known and the film reaches so far.
+fn read_whole<S: Shelf>(
+    shelf: &mut S,
+    file: FileNo,
+    place: u64,
+    head: Head,
+) -> Result<Option<Child>, ReadFault>
+    requires { Lies place (found.Element head) }
+    ensures value { IfOk result (λ c. Told (content (S.files shelf.old) (S.opened shelf.old) file.0) (λ octets. head.body ≤ length octets → c ≡ whole_element (length octets) place (Ok head))) }
+    ensures order { IfOk result (λ c. IfSome c (λ x. (x.place ≡ place) × (place < x.at) × (x.at ≤ x.stop))) }
+    ensures cause { HasCause (S.faults shelf.old) (S.faults shelf.new) result }
+    ensures kept { Keeps (S.files shelf.old) (S.files shelf.new) (S.opened shelf.old) (S.opened shelf.new) (S.reach shelf.old) (S.reach shelf.new) }
+{
+    let Some(stop) = end_of(head.body, head.size) else {
+        return Ok(None);
+    };
+    if read_ends_before(shelf, file, head.body as u64, stop)? {
+        return Ok(None);
+    }
+    Ok(Some(Child {
+        id: head.id,
+        place: place as usize,
+        at: head.body,
+        stop: stop as usize,
+    }))
+}
+
+// What stands at a place, as an element of the film.
+fn read_element_at<S: Shelf>(
+    shelf: &mut S,
+    file: FileNo,
+    place: u64,
+    found: Found,
+) -> Result<Option<Child>, ReadFault>
+    requires { Lies place found }
+    ensures value { IfOk result (λ c. Told (content (S.files shelf.old) (S.opened shelf.old) file.0) (λ octets. FoundIn (length octets) found → c ≡ whole_found (length octets) place found)) }
+    ensures order { IfOk result (λ c. IfSome c (λ x. (x.place ≡ place) × (place < x.at) × (x.at ≤ x.stop))) }
+    ensures cause { HasCause (S.faults shelf.old) (S.faults shelf.new) result }
+    ensures kept { Keeps (S.files shelf.old) (S.files shelf.new) (S.opened shelf.old) (S.opened shelf.new) (S.reach shelf.old) (S.reach shelf.new) }
+{
+    match found {
+        Found::Element(head) => read_whole(shelf, file, place, head),
+        Found::End | Found::Bad(_) => Ok(None),
+    }
+}
+
+fn head_found(found: Found) -> Option<Head>
+    ensures { result ≡ head_in found }
+{
+    match found {
+        Found::Element(head) => Some(head),
+        Found::End | Found::Bad(_) => None,
+    }
+}
+
+/// The first Segment from a place on, behind elements that stand whole.
+pub(crate) fn find_segment<S: Shelf>(
+    shelf: &mut S,
+    file: FileNo,
+    from: u64,
+) -> Result<Segment, OpenError>
+    ensures value { Told (content (S.files shelf.old) (S.opened shelf.old) file.0) (λ octets. from ≤ length octets → Gives result (segment_of octets from)) }
+    ensures behind { IfOk result (λ s. 0 < s.opening) }
+    ensures cause { BeginCause (S.faults shelf.old) (S.faults shelf.new) result }
+    ensures kept { Keeps (S.files shelf.old) (S.files shelf.new) (S.opened shelf.old) (S.opened shelf.new) (S.reach shelf.old) (S.reach shelf.new) }
+{
+    let mut place = from;
+    loop {
+        let found = read_found(shelf, file, place)?;
+        let Some(head) = head_found(found) else {
+            return Err(OpenError::Refused(Refused::NoSegment));
+        };
+        if head.id == ids::SEGMENT {
+            return Ok(Segment {
+                opening: head.body as u64,
+                end: end_of(head.body, head.size),
+            });
+        }
+        match read_element_at(shelf, file, place, found)? {
+            Some(element) => place = element.stop as u64,
+            None => return Err(OpenError::Refused(Refused::NoSegment)),
+        }
+    }
+}

@@ -3,7 +3,7 @@ use Rattle.std.proofs.Common.{◌≡◌, ◌≢◌, ℕ, zero, suc, ◌+◌, ◌
 use Rattle.std.proofs.lemmas.List.{drop_all}
 use Rattle.std.proofs.lemmas.Bool.{leb-true, cond_both}
 use Rattle.std.proofs.lemmas.Bool.Decides.{eqb_tells, nat_tests}
-use Rattle.std.specs.Prelude.{◌==◌, nat_le, IfSome, IfOk, if◌then◌else◌}
+use Rattle.std.specs.Prelude.{◌==◌, ◌||◌, nat_le, IfSome, IfOk, if◌then◌else◌}
 use Rattle.mc_ebml.specs.declared.read.Head.{Head}
 use Rattle.mc_ebml.specs.declared.read.Size.{Size}
 use Rattle.mc_ebml.specs.declared.read.Size.TheVariants.{Known, Unknown}
@@ -14,9 +14,11 @@ use Rattle.mc_tracks.specs.declared.children.Child.{Child}
 use Rattle.mc_tracks.specs.declared.refused.Refused.{Refused}
 use Rattle.mc_tracks.specs.declared.refused.Refused.TheVariants.{NoSegment}
 use Rattle.mc_tracks.specs.Children.{element_at, whole_element, known_element, first}
-use Rattle.mc_tracks.specs.Ids.{SEGMENT}
+use Rattle.mc_tracks.specs.Ids.{SEGMENT, CLUSTER}
+use Rattle.mc_walk.specs.Moves.{runs_past}
 use Rattle.mc_walk.specs.declared.plan.Segment.{Segment}
-use Rattle.mc_walk.specs.Opening.{segment_from, segment_of, segment_or, skipped, end_by, segment_child, segment_children, following}
+use Rattle.mc_walk.specs.Walk.{stands_at}
+use Rattle.mc_walk.specs.Opening.{before_cluster, segment_from, segment_of, segment_or, skipped, end_by, segment_child, segment_children, following}
 use Rattle.mc_walk.proofs.Rising.{head-lies}
 use Rattle.mc_cursor.specs.declared.reading.Found.{Found}
 use Rattle.mc_cursor.specs.declared.reading.Found.TheVariants as found
@@ -186,3 +188,63 @@ cut_found octets place f h is some within id none = not_whole octets place h (sy
 pub skipped_found : (octets : List ℕ) (place : ℕ) (f : Found) (h : Head) (c : Child) → f ≡ found_at octets place → Some h ≡ head_in f → place ≤ length octets → h.id ≢ SEGMENT
     → Some c ≡ whole_found (length octets) place f → (c.stop ≤ length octets) × (segment_after octets place ≡ segment_after octets c.stop)
 skipped_found octets place f h c is some within id one = goes_on octets place h c (sym (some_found f h some) ∙ is) within id (one ∙ sym (element_found octets place f is))
+
+-- ---- children of the Segment
+
+pub child_found : (octets : List ℕ) (end : Option ℕ) (place : ℕ) (f : Found) (c : Option Child) → f ≡ found_at octets place → stands_at end place ≡ false → c ≡ whole_found (length octets) place f
+    → before_cluster end c ≡ segment_child octets end place
+child_found octets end place f c is stands one =
+    rw stands (ap (before_cluster end) (one ∙ sym (element_found octets place f is)))
+
+-- the first child of an ID from a place on
+abbrev pub child_after : List ℕ → Option ℕ → ℕ → ℕ → Option Child
+child_after octets end place id = first id (segment_children (length octets) octets end place)
+
+before_stops : (end : Option ℕ) (place len : ℕ) (c : Option Child) → IfSome c (StopsOn place len) → IfSome (before_cluster end c) (StopsOn place len)
+before_stops end place len None stops = tt
+before_stops end place len (Some c) stops = cond_both (c.id == CLUSTER || runs_past end c.stop) _ _ (λ c. IfSome c (StopsOn place len)) (λ e. tt) (λ e. stops)
+
+child_stops : (octets : List ℕ) (end : Option ℕ) (place : ℕ) → place ≤ length octets → IfSome (segment_child octets end place) (StopsOn place (length octets))
+child_stops octets end place within =
+    cond_both (stands_at end place) _ _ (λ c. IfSome c (StopsOn place (length octets))) (λ e. tt)
+    (λ e. before_stops end place (length octets) (element_at octets place) (element_stops octets place within))
+
+same_following : (place len : ℕ) (c : Option Child) (f k : ℕ → List Child) → IfSome c (StopsOn place len) → ((to : ℕ) → place < to → to ≤ len → f to ≡ k to) → following c f ≡ following c k
+same_following place len None f k stops same = refl
+same_following place len (Some c) f k stops same = ap (λ (cs : List Child). c ∷ cs) (same c.stop stops.0 stops.1)
+
+none_at_end : (octets : List ℕ) (end : Option ℕ) (place : ℕ) → place ≡ length octets → segment_child octets end place ≡ None
+unfolding element_at
+none_at_end octets end place e = rw (no_head_at_end octets place e) (cond_both (stands_at end place) _ _ (λ (c : Option Child). c ≡ None) (λ e. refl) (λ e. refl))
+
+children_at_end : (n : ℕ) (octets : List ℕ) (end : Option ℕ) (place : ℕ) → place ≡ length octets → segment_children n octets end place ≡ []
+unfolding segment_children
+children_at_end zero octets end place e = refl
+children_at_end (suc n) octets end place e = rw (none_at_end octets end place e) refl
+
+children_enough : (n m : ℕ) (octets : List ℕ) (end : Option ℕ) (place : ℕ) → place ≤ length octets → length octets ≤ place + n → length octets ≤ place + m
+    → segment_children n octets end place ≡ segment_children m octets end place
+unfolding segment_children
+children_enough zero m octets end place within enough enough' = children_at_end zero octets end place (omega arith) ∙ sym (children_at_end m octets end place (omega arith))
+children_enough (suc n) zero octets end place within enough enough' = children_at_end (suc n) octets end place (omega arith) ∙ sym (children_at_end zero octets end place (omega arith))
+children_enough (suc n) (suc m) octets end place within enough enough' =
+    same_following place (length octets) (segment_child octets end place) (λ on. segment_children n octets end on) (λ on. segment_children m octets end on) (child_stops octets end place within)
+    (λ to behind within'. children_enough n m octets end to within' (omega arith) (omega arith))
+
+children_step : (octets : List ℕ) (end : Option ℕ) (place : ℕ) → place ≤ length octets
+    → segment_children (length octets) octets end place ≡ following (segment_child octets end place) (λ on. segment_children (length octets) octets end on)
+unfolding segment_children
+children_step octets end place within =
+    children_enough (length octets) (suc (length octets)) octets end place within (omega arith) (omega arith)
+
+pub no_child : (octets : List ℕ) (end : Option ℕ) (place id : ℕ) → place ≤ length octets → None ≡ segment_child octets end place → child_after octets end place id ≡ None
+no_child octets end place id within none = rw (children_step octets end place within, ← none) refl
+
+pub is_child : (octets : List ℕ) (end : Option ℕ) (place id : ℕ) (c : Child) → place ≤ length octets → Some c ≡ segment_child octets end place → c.id ≡ id → child_after octets end place id ≡ Some c
+is_child octets end place id c within one is = rw (children_step octets end place within, ← one, eq-eqb c.id id is) refl
+
+pub next_child : (octets : List ℕ) (end : Option ℕ) (place id : ℕ) (c : Child) → place ≤ length octets → Some c ≡ segment_child octets end place → c.id ≢ id
+    → (c.stop ≤ length octets) × (child_after octets end place id ≡ child_after octets end c.stop id)
+next_child octets end place id c within one isnt =
+    let stops = rw (← one) at (child_stops octets end place within) in
+    (stops.1, rw (children_step octets end place within, ← one, differs c.id id isnt) refl)

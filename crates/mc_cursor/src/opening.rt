@@ -1,11 +1,12 @@
-ghost use Rattle.std.specs.Prelude.{◌≡◌, ◌+◌, ◌-◌, ◌^◌, ◌<◌, ◌≤◌, max, length, slice_range, Option, Ok, IsErrOf, IfOk, IfSome};
+ghost use Rattle.std.specs.Prelude.{◌≡◌, ◌+◌, ◌-◌, ◌^◌, ◌<◌, ◌≤◌, max, length, slice_range, Option, Some, Ok, IsErrOf, IfOk, IfSome};
 ghost use Rattle.mc_ebml.specs.Element.{IsSmall};
 ghost use Rattle.mc_outside.specs.Causes.{HasCause};
 ghost use Rattle.mc_outside.specs.Shelf.{content};
 ghost use Rattle.mc_tracks.specs.Children.{element_at, whole_element};
 ghost use Rattle.mc_cursor.specs.declared.reading.Found.TheVariants as found;
 ghost use Rattle.mc_tracks.specs.Header.{ebml_header_of};
-ghost use Rattle.mc_walk.specs.Opening.{end_by, segment_of, segment_child, first_child, info_in, tracks_in, header_of};
+ghost use Rattle.mc_walk.specs.Opening.{end_by, segment_of, before_cluster, segment_child, first_child, info_in, tracks_in, header_of};
+ghost use Rattle.mc_walk.specs.Walk.{stands_at};
 ghost use Rattle.mc_cursor.specs.Causes.{Keeps};
 ghost use Rattle.mc_cursor.specs.Reads.{Told, Lies, found_at};
 ghost use Rattle.mc_cursor.specs.Begins.{BeginCause, Gives, header_span, stop_of, FoundIn, head_in, whole_found};
@@ -151,5 +152,71 @@ pub(crate) fn find_segment<S: Shelf>(
             Some(element) => place = element.stop as u64,
             None => return Err(OpenError::Refused(Refused::NoSegment)),
         }
+    }
+}
+
+fn is_end(end: Option<u64>, place: u64) -> bool
+    ensures { result ≡ stands_at end place }
+{
+    match end {
+        Some(end) => end == place,
+        None => false,
+    }
+}
+
+// The child of the Segment at a place: no Cluster, and whole in the film and in the Segment.
+fn read_segment_child<S: Shelf>(
+    shelf: &mut S,
+    file: FileNo,
+    end: Option<u64>,
+    place: u64,
+) -> Result<Option<Child>, ReadFault>
+    ensures value { IfOk result (λ c. Told (content (S.files shelf.old) (S.opened shelf.old) file.0) (λ octets. place ≤ length octets → c ≡ segment_child octets end place)) }
+    ensures order { IfOk result (λ c. IfSome c (λ x. (x.place ≡ place) × (place < x.at) × (x.at ≤ x.stop))) }
+    ensures cause { HasCause (S.faults shelf.old) (S.faults shelf.new) result }
+    ensures kept { Keeps (S.files shelf.old) (S.files shelf.new) (S.opened shelf.old) (S.opened shelf.new) (S.reach shelf.old) (S.reach shelf.new) }
+{
+    if is_end(end, place) {
+        return Ok(None);
+    }
+    let found = read_found(shelf, file, place)?;
+    let child = read_element_at(shelf, file, place, found)?;
+    Ok(child_before_cluster(end, child))
+}
+
+fn child_before_cluster(end: Option<u64>, child: Option<Child>) -> Option<Child>
+    ensures value { result ≡ before_cluster end child }
+    ensures same { IfSome result (λ c. child ≡ Some c) }
+{
+    let child = child?;
+    let runs_past = end.is_some_and(|end| end < child.stop as u64);
+    if child.id == ids::CLUSTER || runs_past {
+        None
+    } else {
+        Some(child)
+    }
+}
+
+// The first child of this ID before the first Cluster.
+fn find_first<S: Shelf>(
+    shelf: &mut S,
+    file: FileNo,
+    segment: Segment,
+    id: u32,
+) -> Result<Option<Child>, ReadFault>
+    ensures value { IfOk result (λ c. Told (content (S.files shelf.old) (S.opened shelf.old) file.0) (λ octets. segment.opening ≤ length octets → c ≡ first_child octets segment id)) }
+    ensures order { IfOk result (λ c. IfSome c (λ x. (x.place < x.at) × (x.at ≤ x.stop))) }
+    ensures cause { HasCause (S.faults shelf.old) (S.faults shelf.new) result }
+    ensures kept { Keeps (S.files shelf.old) (S.files shelf.new) (S.opened shelf.old) (S.opened shelf.new) (S.reach shelf.old) (S.reach shelf.new) }
+{
+    let mut place = segment.opening;
+    loop {
+        let Some(child) = read_segment_child(shelf, file, segment.end, place)? else {
+            return Ok(None);
+        };
+        if child.id == id {
+            return Ok(Some(child));
+        }
+        place = child.stop as u64;
     }
 }

@@ -4,8 +4,8 @@ ghost use Rattle.mc_outside.specs.Causes.{HasCause};
 ghost use Rattle.mc_outside.specs.Shelf.{content};
 ghost use Rattle.mc_tracks.specs.Children.{element_at, whole_element};
 ghost use Rattle.mc_cursor.specs.declared.reading.Found.TheVariants as found;
-ghost use Rattle.mc_tracks.specs.Header.{ebml_header_of};
-ghost use Rattle.mc_walk.specs.Opening.{end_by, segment_of, before_cluster, segment_child, first_child, info_in, tracks_in, header_of};
+ghost use Rattle.mc_tracks.specs.Header.{ebml_header_of, info_of, tracks_of};
+ghost use Rattle.mc_walk.specs.Opening.{end_by, segment_of, before_cluster, segment_child, first_child, info_in, tracks_in, info_then_tracks, tracks_then_info, header_by, header_of};
 ghost use Rattle.mc_walk.specs.Walk.{stands_at};
 ghost use Rattle.mc_cursor.specs.Causes.{Keeps};
 ghost use Rattle.mc_cursor.specs.Reads.{Told, Lies, found_at};
@@ -18,6 +18,9 @@ use mc_outside::{FileNo, ReadFault, Shelf};
 use mc_tracks::{Child, Refused, TrackList, ids, parse_ebml_header, parse_info, parse_tracks};
 use mc_walk::{Header, Segment};
 use std::alloc::Global;
+
+// A longer body of Info or Tracks is not read.
+const LARGEST: usize = 16_777_216;
 
 // How many octets tell whether a film begins with an EBML header, and what it says.
 fn header_size(found: Found) -> u64
@@ -219,4 +222,104 @@ fn find_first<S: Shelf>(
         }
         place = child.stop as u64;
     }
+}
+
+fn info_from(body: &[u8], at: u64) -> Result<u64, OpenError>
+    requires { at + length body.now < 2 ^ 64 }
+    ensures value { Gives result (info_of body.now at) }
+    ensures positive { IfOk result (λ scale. 0 < scale) }
+    ensures pure { ¬ IsErrOf result OpenError.ReadFault }
+{
+    Ok(parse_info(body, at)?)
+}
+
+fn tracks_from(alloc: Global, body: &[u8], at: u64) -> Result<TrackList, OpenError>
+    requires { at + length body.now < 2 ^ 64 }
+    ensures value { Gives result (tracks_of body.now at) }
+    ensures pure { ¬ IsErrOf result OpenError.ReadFault }
+{
+    Ok(parse_tracks(alloc, body, at)?)
+}
+
+fn read_info<S: Shelf>(
+    alloc: Global,
+    shelf: &mut S,
+    file: FileNo,
+    child: Child,
+) -> Result<u64, OpenError>
+    requires { child.at ≤ child.stop }
+    ensures value { Told (content (S.files shelf.old) (S.opened shelf.old) file.0) (λ octets. child.stop ≤ length octets → Gives result (info_in octets child)) }
+    ensures positive { IfOk result (λ scale. 0 < scale) }
+    ensures cause { BeginCause (S.faults shelf.old) (S.faults shelf.new) result }
+    ensures kept { Keeps (S.files shelf.old) (S.files shelf.new) (S.opened shelf.old) (S.opened shelf.new) (S.reach shelf.old) (S.reach shelf.new) }
+{
+    let broken = OpenError::Refused(Refused::Broken(child.place as u64));
+    if child.stop - child.at > LARGEST {
+        return Err(broken);
+    }
+    match read_part(alloc, shelf, file, child.at as u64, child.stop as u64)? {
+        Some(body) => info_from(body.as_slice(), child.at as u64),
+        None => Err(broken),
+    }
+}
+
+fn read_tracks<S: Shelf>(
+    alloc: Global,
+    shelf: &mut S,
+    file: FileNo,
+    child: Child,
+) -> Result<TrackList, OpenError>
+    requires { child.at ≤ child.stop }
+    ensures value { Told (content (S.files shelf.old) (S.opened shelf.old) file.0) (λ octets. child.stop ≤ length octets → Gives result (tracks_in octets child)) }
+    ensures cause { BeginCause (S.faults shelf.old) (S.faults shelf.new) result }
+    ensures kept { Keeps (S.files shelf.old) (S.files shelf.new) (S.opened shelf.old) (S.opened shelf.new) (S.reach shelf.old) (S.reach shelf.new) }
+{
+    let broken = OpenError::Refused(Refused::Broken(child.place as u64));
+    if child.stop - child.at > LARGEST {
+        return Err(broken);
+    }
+    match read_part(alloc, shelf, file, child.at as u64, child.stop as u64)? {
+        Some(body) => tracks_from(alloc, body.as_slice(), child.at as u64),
+        None => Err(broken),
+    }
+}
+
+// Info stands before Tracks.
+fn read_info_first<S: Shelf>(
+    alloc: Global,
+    shelf: &mut S,
+    file: FileNo,
+    info: Child,
+    tracks: Child,
+) -> Result<Header, OpenError>
+    requires info { info.at ≤ info.stop }
+    requires tracks { tracks.at ≤ tracks.stop }
+    ensures value { Told (content (S.files shelf.old) (S.opened shelf.old) file.0) (λ octets. info.stop ≤ length octets → tracks.stop ≤ length octets → Gives result (info_then_tracks octets info tracks)) }
+    ensures positive { IfOk result (λ h. 0 < h.scale) }
+    ensures cause { BeginCause (S.faults shelf.old) (S.faults shelf.new) result }
+    ensures kept { Keeps (S.files shelf.old) (S.files shelf.new) (S.opened shelf.old) (S.opened shelf.new) (S.reach shelf.old) (S.reach shelf.new) }
+{
+    let scale = read_info(alloc, shelf, file, info)?;
+    let tracks = read_tracks(alloc, shelf, file, tracks)?;
+    Ok(Header { scale, tracks })
+}
+
+// Tracks stands before Info.
+fn read_tracks_first<S: Shelf>(
+    alloc: Global,
+    shelf: &mut S,
+    file: FileNo,
+    info: Child,
+    tracks: Child,
+) -> Result<Header, OpenError>
+    requires info { info.at ≤ info.stop }
+    requires tracks { tracks.at ≤ tracks.stop }
+    ensures value { Told (content (S.files shelf.old) (S.opened shelf.old) file.0) (λ octets. info.stop ≤ length octets → tracks.stop ≤ length octets → Gives result (tracks_then_info octets info tracks)) }
+    ensures positive { IfOk result (λ h. 0 < h.scale) }
+    ensures cause { BeginCause (S.faults shelf.old) (S.faults shelf.new) result }
+    ensures kept { Keeps (S.files shelf.old) (S.files shelf.new) (S.opened shelf.old) (S.opened shelf.new) (S.reach shelf.old) (S.reach shelf.new) }
+{
+    let tracks = read_tracks(alloc, shelf, file, tracks)?;
+    let scale = read_info(alloc, shelf, file, info)?;
+    Ok(Header { scale, tracks })
 }

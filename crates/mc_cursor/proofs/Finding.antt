@@ -248,3 +248,20 @@ pub next_child : (octets : List ℕ) (end : Option ℕ) (place id : ℕ) (c : Ch
 next_child octets end place id c within one isnt =
     let stops = rw (← one) at (child_stops octets end place within) in
     (stops.1, rw (children_step octets end place within, ← one, differs c.id id isnt) refl)
+
+-- the first child of an ID stands in the film
+first_following : (octets : List ℕ) (place id : ℕ) (c : Option Child) (on : ℕ → List Child) → IfSome c (StopsOn place (length octets))
+    → ((to : ℕ) → to ≤ length octets → IfSome (first id (on to)) (λ c. c.stop ≤ length octets)) → IfSome (first id (following c on)) (λ c. c.stop ≤ length octets)
+first_following octets place id None on stops further = tt
+first_following octets place id (Some c) on stops further =
+    cond_both (c.id == id) _ _ (λ c. IfSome c (λ c. c.stop ≤ length octets)) (λ e. stops.1) (λ e. further c.stop stops.1)
+
+pub first_in : (n : ℕ) (octets : List ℕ) (end : Option ℕ) (place id : ℕ) → place ≤ length octets → IfSome (first id (segment_children n octets end place)) (λ c. c.stop ≤ length octets)
+unfolding segment_children
+first_in zero octets end place id within = tt
+first_in (suc n) octets end place id within =
+    first_following octets place id (segment_child octets end place) (λ on. segment_children n octets end on) (child_stops octets end place within)
+        (λ to within'. first_in n octets end to id within')
+
+pub segment_within : (octets : List ℕ) (place : ℕ) (f : Found) (h : Head) → f ≡ found_at octets place → Some h ≡ head_in f → place ≤ length octets → h.body ≤ length octets
+segment_within octets place f h is some within = (element_within octets place h (sym (some_found f h some) ∙ is) within).1

@@ -7,3 +7,4 @@ pub mod Chunks
 pub mod Standing
 pub mod Fronts
 pub mod Finding
+pub mod Beginning

@@ -6,15 +6,19 @@ ghost use Rattle.mc_tracks.specs.Children.{element_at, whole_element};
 ghost use Rattle.mc_cursor.specs.declared.reading.Found.TheVariants as found;
 ghost use Rattle.mc_tracks.specs.Header.{ebml_header_of, info_of, tracks_of};
 ghost use Rattle.mc_walk.specs.Opening.{end_by, segment_of, before_cluster, segment_child, first_child, info_in, tracks_in, info_then_tracks, tracks_then_info, header_by, header_of};
+ghost use Rattle.mc_walk.specs.Parts.{opening_mark};
 ghost use Rattle.mc_walk.specs.Walk.{stands_at};
+ghost use Rattle.mc_cursor.specs.Standing.{mark_of, file_of};
 ghost use Rattle.mc_cursor.specs.Causes.{Keeps};
 ghost use Rattle.mc_cursor.specs.Reads.{Told, Lies, found_at};
-ghost use Rattle.mc_cursor.specs.Begins.{BeginCause, Gives, header_span, stop_of, FoundIn, head_in, whole_found};
+ghost use Rattle.mc_cursor.specs.Begins.{BeginCause, Begins, Gives, header_span, stop_of, FoundIn, head_in, whole_found};
 
+use crate::cursor::Cursor;
 use crate::error::OpenError;
 use crate::reading::{Found, read_ends_before, read_found, read_front, read_part};
 use mc_ebml::{Head, Size};
 use mc_outside::{FileNo, ReadFault, Shelf};
+use mc_packet::{Level, Mark};
 use mc_tracks::{Child, Refused, TrackList, ids, parse_ebml_header, parse_info, parse_tracks};
 use mc_walk::{Header, Segment};
 use std::alloc::Global;
@@ -41,6 +45,7 @@ fn header_size(found: Found) -> u64
 
 fn header_in(front: &[u8]) -> Result<usize, OpenError>
     ensures value { Gives result (ebml_header_of front.now) }
+    ensures within { IfOk result (λ n. n ≤ length front.now) }
     ensures pure { ¬ IsErrOf result OpenError.ReadFault }
 {
     Ok(parse_ebml_header(front)?)
@@ -53,6 +58,7 @@ pub(crate) fn read_ebml_header<S: Shelf>(
     file: FileNo,
 ) -> Result<usize, OpenError>
     ensures value { Told (content (S.files shelf.old) (S.opened shelf.old) file.0) (λ octets. Gives result (ebml_header_of octets)) }
+    ensures within { Told (content (S.files shelf.old) (S.opened shelf.old) file.0) (λ octets. IfOk result (λ n. n ≤ length octets)) }
     ensures cause { BeginCause (S.faults shelf.old) (S.faults shelf.new) result }
     ensures kept { Keeps (S.files shelf.old) (S.files shelf.new) (S.opened shelf.old) (S.opened shelf.new) (S.reach shelf.old) (S.reach shelf.new) }
 {
@@ -135,6 +141,7 @@ pub(crate) fn find_segment<S: Shelf>(
     from: u64,
 ) -> Result<Segment, OpenError>
     ensures value { Told (content (S.files shelf.old) (S.opened shelf.old) file.0) (λ octets. from ≤ length octets → Gives result (segment_of octets from)) }
+    ensures within { Told (content (S.files shelf.old) (S.opened shelf.old) file.0) (λ octets. from ≤ length octets → IfOk result (λ s. s.opening ≤ length octets)) }
     ensures behind { IfOk result (λ s. 0 < s.opening) }
     ensures cause { BeginCause (S.faults shelf.old) (S.faults shelf.new) result }
     ensures kept { Keeps (S.files shelf.old) (S.files shelf.new) (S.opened shelf.old) (S.opened shelf.new) (S.reach shelf.old) (S.reach shelf.new) }
@@ -322,4 +329,92 @@ fn read_tracks_first<S: Shelf>(
     let tracks = read_tracks(alloc, shelf, file, tracks)?;
     let scale = read_info(alloc, shelf, file, info)?;
     Ok(Header { scale, tracks })
+}
+
+// Info and Tracks, where they were found.
+fn read_found_header<S: Shelf>(
+    alloc: Global,
+    shelf: &mut S,
+    file: FileNo,
+    info: Option<Child>,
+    tracks: Option<Child>,
+) -> Result<Header, OpenError>
+    requires info { IfSome info (λ c. c.at ≤ c.stop) }
+    requires tracks { IfSome tracks (λ c. c.at ≤ c.stop) }
+    ensures value { Told (content (S.files shelf.old) (S.opened shelf.old) file.0) (λ octets. IfSome info (λ c. c.stop ≤ length octets) → IfSome tracks (λ c. c.stop ≤ length octets) → Gives result (header_by octets info tracks)) }
+    ensures positive { IfOk result (λ h. 0 < h.scale) }
+    ensures cause { BeginCause (S.faults shelf.old) (S.faults shelf.new) result }
+    ensures kept { Keeps (S.files shelf.old) (S.files shelf.new) (S.opened shelf.old) (S.opened shelf.new) (S.reach shelf.old) (S.reach shelf.new) }
+{
+    match (info, tracks) {
+        (Some(info), Some(tracks)) => {
+            if info.place < tracks.place {
+                read_info_first(alloc, shelf, file, info, tracks)
+            } else {
+                read_tracks_first(alloc, shelf, file, info, tracks)
+            }
+        }
+        (Some(info), None) => {
+            read_info(alloc, shelf, file, info)?;
+            Err(OpenError::Refused(Refused::NoTracks))
+        }
+        (None, tracks) => {
+            if let Some(tracks) = tracks {
+                read_tracks(alloc, shelf, file, tracks)?;
+            }
+            Err(OpenError::Refused(Refused::NoInfo))
+        }
+    }
+}
+
+/// Info and Tracks, which have to stand before the first Cluster.
+#[tactic(auto, unfolding(mc_walk::specs::Opening::header_of))]
+pub(crate) fn read_header<S: Shelf>(
+    alloc: Global,
+    shelf: &mut S,
+    file: FileNo,
+    segment: Segment,
+) -> Result<Header, OpenError>
+    ensures value { Told (content (S.files shelf.old) (S.opened shelf.old) file.0) (λ octets. segment.opening ≤ length octets → Gives result (header_of octets segment)) }
+    ensures positive { IfOk result (λ h. 0 < h.scale) }
+    ensures cause { BeginCause (S.faults shelf.old) (S.faults shelf.new) result }
+    ensures kept { Keeps (S.files shelf.old) (S.files shelf.new) (S.opened shelf.old) (S.opened shelf.new) (S.reach shelf.old) (S.reach shelf.new) }
+{
+    let info = find_first(shelf, file, segment, ids::INFO)?;
+    let tracks = find_first(shelf, file, segment, ids::TRACKS)?;
+    read_found_header(alloc, shelf, file, info, tracks)
+}
+
+impl Cursor {
+    /// Reads what stands before a film's Clusters (RFC 8794, section 11.2; RFC 9559, section 5.1),
+    /// and stands at the opening mark.
+    ///
+    /// `Refused` exactly where that is refused. `ReadFault` comes only where the shelf's count of
+    /// faults rose in this call, or stands at its last value.
+    pub fn begin<S: Shelf>(
+        alloc: Global,
+        shelf: &mut S,
+        file: FileNo,
+    ) -> Result<Cursor, OpenError>
+        ensures value { Told (content (S.files shelf.old) (S.opened shelf.old) file.0) (λ octets. Begins octets result) }
+        ensures at { IfOk result (λ c. (mark_of c ≡ opening_mark) × (file_of c ≡ file.0)) }
+        ensures cause { BeginCause (S.faults shelf.old) (S.faults shelf.new) result }
+        ensures kept { Keeps (S.files shelf.old) (S.files shelf.new) (S.opened shelf.old) (S.opened shelf.new) (S.reach shelf.old) (S.reach shelf.new) }
+    {
+        let from = read_ebml_header(alloc, shelf, file)?;
+        let segment = find_segment(shelf, file, from as u64)?;
+        let header = read_header(alloc, shelf, file, segment)?;
+        Ok(Cursor {
+            alloc,
+            file,
+            opening: segment.opening,
+            segment_end: segment.end,
+            scale: header.scale,
+            tracks: header.tracks,
+            mark: Mark {
+                pos: 0,
+                level: Level::Segment,
+            },
+        })
+    }
 }

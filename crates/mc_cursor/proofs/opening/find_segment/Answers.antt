@@ -1,7 +1,7 @@
 use Rattle.std.proofs.Common.{◌≡◌, ◌∙◌, ◌<◌, sym, arith}
 use Rattle.mc_cursor.proofs.Chunks.{keeps_more, keeps_read, told_later}
 use Rattle.mc_cursor.proofs.Stepping.{content_kept}
-use Rattle.mc_cursor.proofs.Finding.{none_found, segment_found, cut_found, skipped_found, found_in_film}
+use Rattle.mc_cursor.proofs.Finding.{none_found, segment_found, segment_within, cut_found, skipped_found, found_in_film}
 use Rattle.mc_cursor.proofs.opening.find_segment.Goals as goal
 
 pub returns-in_default-clause-value : goal.returns-in_default-clause-value
@@ -41,3 +41,10 @@ loop-found-preserved g c =
           let on = skipped_found octets c.loop-found.place c.in_ok-found.found c.in-Some.head c.in-Some-2.element is (sym c.in-Some.is ∙ c.head_found.ensures) inv.0 c.if-head-eq-SEGMENT.false one in
           (on.0, sym on.1 ∙ inv.1);
     }
+
+pub returns-then-head-eq-SEGMENT-clause-within : goal.returns-then-head-eq-SEGMENT-clause-within
+returns-then-head-eq-SEGMENT-clause-within g c = λ octets told from_le.
+    let inv = c.loop-found.invariant.told octets told from_le in
+    let told' = told_later _ _ _ _ _ _ c.args.file.0 octets c.loop-found.invariant.kept told in
+    let is = c.in_ok-found.ensures.value octets told' inv.0 in
+    segment_within octets c.loop-found.place c.in_ok-found.found c.in-Some.head is (sym c.in-Some.is ∙ c.head_found.ensures) inv.0

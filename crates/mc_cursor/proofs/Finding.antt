@@ -261,7 +261,7 @@ unfolding segment_children
 first_in zero octets end place id within = tt
 first_in (suc n) octets end place id within =
     first_following octets place id (segment_child octets end place) (λ on. segment_children n octets end on) (child_stops octets end place within)
-        (λ to within'. first_in n octets end to id within')
+    (λ to within'. first_in n octets end to id within')
 
 pub segment_within : (octets : List ℕ) (place : ℕ) (f : Found) (h : Head) → f ≡ found_at octets place → Some h ≡ head_in f → place ≤ length octets → h.body ≤ length octets
 segment_within octets place f h is some within = (element_within octets place h (sym (some_found f h some) ∙ is) within).1

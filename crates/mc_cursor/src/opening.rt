@@ -391,11 +391,7 @@ impl Cursor {
     ///
     /// `Refused` exactly where that is refused. `ReadFault` comes only where the shelf's count of
     /// faults rose in this call, or stands at its last value.
-    pub fn begin<S: Shelf>(
-        alloc: Global,
-        shelf: &mut S,
-        file: FileNo,
-    ) -> Result<Cursor, OpenError>
+    pub fn begin<S: Shelf>(alloc: Global, shelf: &mut S, file: FileNo) -> Result<Cursor, OpenError>
         ensures value { Told (content (S.files shelf.old) (S.opened shelf.old) file.0) (λ octets. Begins octets result) }
         ensures at { IfOk result (λ c. (mark_of c ≡ opening_mark) × (file_of c ≡ file.0)) }
         ensures cause { BeginCause (S.faults shelf.old) (S.faults shelf.new) result }

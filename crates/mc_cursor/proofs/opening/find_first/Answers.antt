@@ -23,9 +23,9 @@ loop-child-preserved g c =
       later = omega (arith, c.read_segment_child.ensures.cause.later);
       kept = keeps_more _ _ _ _ _ _ _ _ _ c.loop-child.invariant.kept c.read_segment_child.ensures.kept;
       told = λ octets told within.
-        let inv = c.loop-child.invariant.told octets told within in
-        let told' = told_later _ _ _ _ _ _ c.args.file.0 octets c.loop-child.invariant.kept told in
-        let one = sym c.in-Some.is ∙ c.in_ok-child.ensures.value octets told' inv.0 in
-        let on = next_child octets c.args.segment.end c.loop-child.place c.args.id c.in-Some.child inv.0 one c.if-child-id.false in
-        (on.0, sym on.1 ∙ inv.1);
+          let inv = c.loop-child.invariant.told octets told within in
+          let told' = told_later _ _ _ _ _ _ c.args.file.0 octets c.loop-child.invariant.kept told in
+          let one = sym c.in-Some.is ∙ c.in_ok-child.ensures.value octets told' inv.0 in
+          let on = next_child octets c.args.segment.end c.loop-child.place c.args.id c.in-Some.child inv.0 one c.if-child-id.false in
+          (on.0, sym on.1 ∙ inv.1);
     }

@@ -12,7 +12,7 @@ invariant-loop-child g l = record {
   later : g.S.Shelf.faults l.initial.shelf ≤ g.S.Shelf.faults l.shelf;
   kept : Keeps (g.S.Shelf.files l.initial.shelf) (g.S.Shelf.files l.shelf) (g.S.Shelf.opened l.initial.shelf) (g.S.Shelf.opened l.shelf) (g.S.Shelf.reach l.initial.shelf) (g.S.Shelf.reach l.shelf);
   told : Told (content (g.S.Shelf.files l.initial.shelf) (g.S.Shelf.opened l.initial.shelf) l.file.0)
-    (λ octets. l.segment.opening ≤ length octets → (l.place ≤ length octets) × (child_after octets l.segment.end l.place l.id ≡ first_child octets l.segment l.id));
+      (λ octets. l.segment.opening ≤ length octets → (l.place ≤ length octets) × (child_after octets l.segment.end l.place l.id ≡ first_child octets l.segment l.id));
 }
 
 abbrev pub decreases-loop-child : goal.decreases-loop-child

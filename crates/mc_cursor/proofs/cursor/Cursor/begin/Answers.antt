@@ -14,7 +14,7 @@ returns-in_err-segment-clause-value g c = λ octets told.
     let told' = told_later _ _ _ _ _ _ c.args.file.0 octets c.read_ebml_header.ensures.kept told in
     let fails = c.in_err-segment.ensures.value octets told' from_in in
     begins_by octets c.in_err-segment.field-0.0 c.from_residual-in_err-segment.result c.from_residual-in_err-segment.ensures
-        (refused_at_segment octets c.in_ok-from.from c.in_err-segment.field-0.0 first fails)
+    (refused_at_segment octets c.in_ok-from.from c.in_err-segment.field-0.0 first fails)
 
 pub returns-in_err-header-clause-value : goal.returns-in_err-header-clause-value
 returns-in_err-header-clause-value g c = λ octets told.
@@ -26,7 +26,7 @@ returns-in_err-header-clause-value g c = λ octets told.
     let told'' = told_later _ _ _ _ _ _ c.args.file.0 octets c.find_segment.ensures.kept told' in
     let fails = c.in_err-header.ensures.value octets told'' within in
     begins_by octets c.in_err-header.field-0.0 c.from_residual-in_err-header.result c.from_residual-in_err-header.ensures
-        (refused_at_children octets c.in_ok-from.from c.in_ok-segment.segment c.in_err-header.field-0.0 first second fails)
+    (refused_at_children octets c.in_ok-from.from c.in_ok-segment.segment c.in_err-header.field-0.0 first second fails)
 
 pub returns-clause-value : goal.returns-clause-value
 returns-clause-value g c = λ octets told.

@@ -1,0 +1,10 @@
+pub mod Heads
+pub mod Windows
+pub mod Long
+pub mod Turning
+pub mod Stepping
+pub mod Chunks
+pub mod Standing
+pub mod Fronts
+pub mod Finding
+pub mod Beginning

@@ -1,0 +1,47 @@
+-- A cursor stands for its film at each mark of it.
+use Rattle.std.proofs.Common.{◌≡◌, ℕ, ◌+◌, ◌<◌, ◌≤◌, max, Bool, true, false, List, length, Option, Some, None, Result, Ok, Err, refl, sym, ap, ◌∙◌, subst, arith}
+use Rattle.std.proofs.lemmas.Bool.{cond_both}
+use Rattle.std.specs.Prelude.{◌==◌, IfOk}
+use Rattle.mc_packet.specs.declared.walk.Chunk.{Chunk}
+use Rattle.mc_packet.specs.declared.walk.Mark.{Mark}
+use Rattle.mc_tracks.specs.declared.refused.Refused.{Refused}
+use Rattle.mc_walk.specs.declared.plan.Plan.{Plan}
+use Rattle.mc_walk.specs.Walk.{steps}
+use Rattle.mc_walk.specs.Opening.{opened_film}
+use Rattle.mc_walk.specs.Parts.{part_at, chunk_at, place_of, level_of, IsMark, at_opening, at_end}
+use Rattle.mc_walk.proofs.Enough.{part-to}
+use Rattle.mc_walk.proofs.Opened.{opened-lies}
+use Rattle.mc_cursor.specs.declared.cursor.Cursor.{Cursor}
+use Rattle.mc_cursor.specs.Standing.{plan_for, at_mark, StandsFor}
+
+-- an offset that is the opening's or within the film
+place_within : (plan : Plan) (m : Mark) → plan.opening ≤ length plan.octets → m.pos ≤ length plan.octets → place_of plan m ≤ length plan.octets
+place_within plan m opening within = cond_both (m.pos == 0) _ _ (λ p. p ≤ length plan.octets) (λ e. opening) (λ e. within)
+
+part_within : (plan : Plan) (m : Mark) → plan.opening ≤ length plan.octets → place_of plan m ≤ length plan.octets → place_of plan (part_at plan m).to ≤ length plan.octets
+part_within plan m opening within =
+    let onward = part-to (steps plan) plan (place_of plan m) (level_of m) within in
+    place_within plan (part_at plan m).to opening onward.1
+
+mark_within : (plan : Plan) (m : Mark) → plan.opening ≤ length plan.octets → IsMark plan m → place_of plan m ≤ length plan.octets
+mark_within plan _ opening at_opening = opening
+mark_within plan _ opening (at_end m is) = part_within plan m opening (mark_within plan m opening is)
+
+opening_within : (octets : List ℕ) (cursor : Cursor) → StandsFor octets cursor → cursor.opening ≤ length octets
+opening_within octets cursor stands =
+    let lies = subst (λ (r : Result Plan Refused). IfOk r (λ plan. (0 < plan.opening) × (plan.opening ≤ length plan.octets))) stands.opened (opened-lies octets) in lies.1
+
+-- it stands for it at the end of the part that was read
+pub stands_after : (octets : List ℕ) (cursor : Cursor) (to : Mark) → StandsFor octets cursor → to ≡ (part_at (plan_for octets cursor) cursor.mark).to
+    → StandsFor octets (at_mark cursor to)
+stands_after octets cursor to stands is = record {
+  opened = stands.opened;
+  within = rw is (part_within (plan_for octets cursor) cursor.mark (opening_within octets cursor stands) stands.within);
+}
+
+-- and at each mark
+pub stands_at_mark : (octets : List ℕ) (cursor : Cursor) (m : Mark) → StandsFor octets cursor → IsMark (plan_for octets cursor) m → StandsFor octets (at_mark cursor m)
+stands_at_mark octets cursor m stands is = record {
+  opened = stands.opened;
+  within = mark_within (plan_for octets cursor) m (opening_within octets cursor stands) is;
+}

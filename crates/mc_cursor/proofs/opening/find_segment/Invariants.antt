@@ -1,0 +1,19 @@
+use Rattle.std.proofs.Common.{◌≡◌, ◌-◌, ◌^◌, ◌≤◌, length, List, ℕ}
+use Rattle.mc_outside.specs.Shelf.{content}
+use Rattle.mc_walk.specs.Opening.{segment_of}
+use Rattle.mc_cursor.specs.Causes.{Keeps}
+use Rattle.mc_cursor.specs.Reads.{Told}
+use Rattle.mc_cursor.proofs.Finding.{segment_after}
+use Rattle.mc_cursor.proofs.opening.find_segment.Given as goal
+
+-- what is sought from here on is what is sought from the start
+abbrev pub invariant-loop-found : goal.invariant-loop-found
+invariant-loop-found g l = record {
+  later : g.S.Shelf.faults l.initial.shelf ≤ g.S.Shelf.faults l.shelf;
+  kept : Keeps (g.S.Shelf.files l.initial.shelf) (g.S.Shelf.files l.shelf) (g.S.Shelf.opened l.initial.shelf) (g.S.Shelf.opened l.shelf) (g.S.Shelf.reach l.initial.shelf) (g.S.Shelf.reach l.shelf);
+  told : Told (content (g.S.Shelf.files l.initial.shelf) (g.S.Shelf.opened l.initial.shelf) l.file.0)
+      (λ octets. l.from ≤ length octets → (l.place ≤ length octets) × (segment_after octets l.place ≡ segment_of octets l.from));
+}
+
+abbrev pub decreases-loop-found : goal.decreases-loop-found
+decreases-loop-found g l = 2 ^ 64 - l.place

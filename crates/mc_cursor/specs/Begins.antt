@@ -1,0 +1,76 @@
+-- What a film opens with, read on demand.
+use Rattle.std.specs.Prelude.{◌≡◌, ℕ, ◌+◌, ◌<◌, ◌≤◌, max, ◌==◌, if◌then◌else◌, List, length, Option, Some, None, Result, Ok, Err, IsErrOf, ⊤}
+use Rattle.mc_ebml.specs.declared.read.Head.{Head}
+use Rattle.mc_ebml.specs.declared.read.Size.{Size}
+use Rattle.mc_ebml.specs.declared.read.Size.TheVariants.{Known, Unknown}
+use Rattle.mc_outside.specs.Causes.{Rose}
+use Rattle.mc_tracks.specs.declared.refused.Refused.{Refused}
+use Rattle.mc_tracks.specs.declared.refused.TracksError.{TracksError}
+use Rattle.mc_tracks.specs.declared.refused.TracksError.TheVariants as causes
+use Rattle.mc_tracks.specs.declared.children.Child.{Child}
+use Rattle.mc_tracks.specs.Children.{whole_element}
+use Rattle.mc_tracks.specs.Ids.{EBML_HEADER}
+use Rattle.mc_walk.specs.Opening.{opened_film}
+use Rattle.mc_cursor.specs.declared.cursor.Cursor.{Cursor}
+use Rattle.mc_cursor.specs.declared.error.CursorError.{CursorError}
+use Rattle.mc_cursor.specs.declared.error.CursorError.TheVariants as failures
+use Rattle.mc_cursor.specs.declared.error.OpenError.{OpenError}
+use Rattle.mc_cursor.specs.declared.error.OpenError.TheVariants as refusals
+use Rattle.mc_cursor.specs.declared.reading.Found.{Found}
+use Rattle.mc_cursor.specs.declared.reading.Found.TheVariants as found
+use Rattle.mc_cursor.specs.Standing.{plan_for, StandsFor}
+
+-- A count never falls, and a read fault comes only where it rose or stands at its last value.
+pub record BeginCause {T : Type 0} (before now : ℕ) (result : Result T OpenError) : Type 0 where
+  pub later : before ≤ now
+  pub failed : IsErrOf result refusals.ReadFault → Rose before now
+
+abbrev pub Fails : {Y : Type 0} → OpenError → Result Y Refused → Type 0
+Fails (refusals.Refused r) value = value ≡ Err r
+Fails refusals.ReadFault value = ⊤
+Fails refusals.NoMemory value = ⊤
+
+-- the answer is the value, unless a read failed or memory ran out
+abbrev pub Gives : {Y : Type 0} → Result Y OpenError → Result Y Refused → Type 0
+Gives (Ok x) value = value ≡ Ok x
+Gives (Err e) value = Fails e value
+
+-- the same where the value is not kept, but a part of it
+abbrev pub Begins : List ℕ → Result Cursor OpenError → Type 0
+Begins octets (Ok c) = StandsFor octets c
+Begins octets (Err e) = Fails e (opened_film octets)
+
+abbrev pub open_error : CursorError → OpenError
+open_error failures.ReadFault = refusals.ReadFault
+open_error failures.NoMemory = refusals.NoMemory
+
+abbrev pub refusal : TracksError → OpenError
+refusal (causes.Refused r) = refusals.Refused r
+refusal causes.NoMemory = refusals.NoMemory
+
+abbrev pub stop_of : ℕ → Size → ℕ
+stop_of at Unknown = at
+stop_of at (Known size) = at + size
+
+-- how many octets tell whether a film begins with an EBML header, and what it says
+abbrev pub header_span : Found → ℕ
+header_span found.End = 12
+header_span (found.Bad e) = 12
+header_span (found.Element h) = if h.id == EBML_HEADER then max 12 (stop_of h.body h.size) else 12
+
+-- the element at a place of a film of so many octets, by what was found there
+abbrev pub whole_found : ℕ → ℕ → Found → Option Child
+whole_found len place found.End = None
+whole_found len place (found.Bad e) = None
+whole_found len place (found.Element h) = whole_element len place (Ok h)
+
+-- what was found stands within so many octets
+abbrev pub FoundIn : ℕ → Found → Type 0
+FoundIn len found.End = ⊤
+FoundIn len (found.Bad e) = ⊤
+FoundIn len (found.Element h) = h.body ≤ len
+
+abbrev pub head_in : Found → Option Head
+head_in found.End = None
+head_in (found.Bad e) = None
+head_in (found.Element h) = Some h

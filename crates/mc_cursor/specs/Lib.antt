@@ -1,0 +1,5 @@
+pub mod Reads
+pub mod Causes
+pub mod Standing
+pub mod Steps
+pub mod Begins

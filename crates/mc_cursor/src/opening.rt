@@ -1,0 +1,416 @@
+ghost use Rattle.std.specs.Prelude.{◌≡◌, ◌+◌, ◌-◌, ◌^◌, ◌<◌, ◌≤◌, max, length, slice_range, Option, Some, Ok, IsErrOf, IfOk, IfSome};
+ghost use Rattle.mc_ebml.specs.Element.{IsSmall};
+ghost use Rattle.mc_outside.specs.Causes.{HasCause};
+ghost use Rattle.mc_outside.specs.Shelf.{content};
+ghost use Rattle.mc_tracks.specs.Children.{element_at, whole_element};
+ghost use Rattle.mc_cursor.specs.declared.reading.Found.TheVariants as found;
+ghost use Rattle.mc_tracks.specs.Header.{ebml_header_of, info_of, tracks_of};
+ghost use Rattle.mc_walk.specs.Opening.{end_by, segment_of, before_cluster, segment_child, first_child, info_in, tracks_in, info_then_tracks, tracks_then_info, header_by, header_of};
+ghost use Rattle.mc_walk.specs.Parts.{opening_mark};
+ghost use Rattle.mc_walk.specs.Walk.{stands_at};
+ghost use Rattle.mc_cursor.specs.Standing.{mark_of, file_of};
+ghost use Rattle.mc_cursor.specs.Causes.{Keeps};
+ghost use Rattle.mc_cursor.specs.Reads.{Told, Lies, found_at};
+ghost use Rattle.mc_cursor.specs.Begins.{BeginCause, Begins, Gives, header_span, stop_of, FoundIn, head_in, whole_found};
+
+use crate::cursor::Cursor;
+use crate::error::OpenError;
+use crate::reading::{Found, read_ends_before, read_found, read_front, read_part};
+use mc_ebml::{Head, Size};
+use mc_outside::{FileNo, ReadFault, Shelf};
+use mc_packet::{Level, Mark};
+use mc_tracks::{Child, Refused, TrackList, ids, parse_ebml_header, parse_info, parse_tracks};
+use mc_walk::{Header, Segment};
+use std::alloc::Global;
+
+// A longer body of Info or Tracks is not read.
+const LARGEST: usize = 16_777_216;
+
+// How many octets tell whether a film begins with an EBML header, and what it says.
+fn header_size(found: Found) -> u64
+    requires { Lies 0 found }
+    ensures { result ≡ header_span found }
+{
+    match found {
+        Found::Element(head) if head.id == ids::EBML_HEADER => {
+            let stop = match head.size {
+                Size::Known(size) => head.body as u64 + size,
+                Size::Unknown => head.body as u64,
+            };
+            stop.max(12)
+        }
+        _ => 12,
+    }
+}
+
+fn header_in(front: &[u8]) -> Result<usize, OpenError>
+    ensures value { Gives result (ebml_header_of front.now) }
+    ensures within { IfOk result (λ n. n ≤ length front.now) }
+    ensures pure { ¬ IsErrOf result OpenError.ReadFault }
+{
+    Ok(parse_ebml_header(front)?)
+}
+
+/// The offset behind the EBML header.
+pub(crate) fn read_ebml_header<S: Shelf>(
+    alloc: Global,
+    shelf: &mut S,
+    file: FileNo,
+) -> Result<usize, OpenError>
+    ensures value { Told (content (S.files shelf.old) (S.opened shelf.old) file.0) (λ octets. Gives result (ebml_header_of octets)) }
+    ensures within { Told (content (S.files shelf.old) (S.opened shelf.old) file.0) (λ octets. IfOk result (λ n. n ≤ length octets)) }
+    ensures cause { BeginCause (S.faults shelf.old) (S.faults shelf.new) result }
+    ensures kept { Keeps (S.files shelf.old) (S.files shelf.new) (S.opened shelf.old) (S.opened shelf.new) (S.reach shelf.old) (S.reach shelf.new) }
+{
+    let found = read_found(shelf, file, 0)?;
+    let front = read_front(alloc, shelf, file, header_size(found))?;
+    header_in(front.as_slice())
+}
+
+// Where a body ends, if its size is known.
+fn end_of(at: usize, size: Size) -> Option<u64>
+    requires fits { at < 2 ^ 63 }
+    requires small { IsSmall size }
+    ensures { result ≡ end_by at size }
+{
+    match size {
+        Size::Known(size) => Some(at as u64 + size),
+        Size::Unknown => None,
+    }
+}
+
+// The element at a place whose head was read, where its size is known and the film reaches so far.
+fn read_whole<S: Shelf>(
+    shelf: &mut S,
+    file: FileNo,
+    place: u64,
+    head: Head,
+) -> Result<Option<Child>, ReadFault>
+    requires { Lies place (found.Element head) }
+    ensures value { IfOk result (λ c. Told (content (S.files shelf.old) (S.opened shelf.old) file.0) (λ octets. head.body ≤ length octets → c ≡ whole_element (length octets) place (Ok head))) }
+    ensures order { IfOk result (λ c. IfSome c (λ x. (x.place ≡ place) × (place < x.at) × (x.at ≤ x.stop))) }
+    ensures cause { HasCause (S.faults shelf.old) (S.faults shelf.new) result }
+    ensures kept { Keeps (S.files shelf.old) (S.files shelf.new) (S.opened shelf.old) (S.opened shelf.new) (S.reach shelf.old) (S.reach shelf.new) }
+{
+    let Some(stop) = end_of(head.body, head.size) else {
+        return Ok(None);
+    };
+    if read_ends_before(shelf, file, head.body as u64, stop)? {
+        return Ok(None);
+    }
+    Ok(Some(Child {
+        id: head.id,
+        place: place as usize,
+        at: head.body,
+        stop: stop as usize,
+    }))
+}
+
+// What stands at a place, as an element of the film.
+fn read_element_at<S: Shelf>(
+    shelf: &mut S,
+    file: FileNo,
+    place: u64,
+    found: Found,
+) -> Result<Option<Child>, ReadFault>
+    requires { Lies place found }
+    ensures value { IfOk result (λ c. Told (content (S.files shelf.old) (S.opened shelf.old) file.0) (λ octets. FoundIn (length octets) found → c ≡ whole_found (length octets) place found)) }
+    ensures order { IfOk result (λ c. IfSome c (λ x. (x.place ≡ place) × (place < x.at) × (x.at ≤ x.stop))) }
+    ensures cause { HasCause (S.faults shelf.old) (S.faults shelf.new) result }
+    ensures kept { Keeps (S.files shelf.old) (S.files shelf.new) (S.opened shelf.old) (S.opened shelf.new) (S.reach shelf.old) (S.reach shelf.new) }
+{
+    match found {
+        Found::Element(head) => read_whole(shelf, file, place, head),
+        Found::End | Found::Bad(_) => Ok(None),
+    }
+}
+
+fn head_found(found: Found) -> Option<Head>
+    ensures { result ≡ head_in found }
+{
+    match found {
+        Found::Element(head) => Some(head),
+        Found::End | Found::Bad(_) => None,
+    }
+}
+
+/// The first Segment from a place on, behind elements that stand whole.
+pub(crate) fn find_segment<S: Shelf>(
+    shelf: &mut S,
+    file: FileNo,
+    from: u64,
+) -> Result<Segment, OpenError>
+    ensures value { Told (content (S.files shelf.old) (S.opened shelf.old) file.0) (λ octets. from ≤ length octets → Gives result (segment_of octets from)) }
+    ensures within { Told (content (S.files shelf.old) (S.opened shelf.old) file.0) (λ octets. from ≤ length octets → IfOk result (λ s. s.opening ≤ length octets)) }
+    ensures behind { IfOk result (λ s. 0 < s.opening) }
+    ensures cause { BeginCause (S.faults shelf.old) (S.faults shelf.new) result }
+    ensures kept { Keeps (S.files shelf.old) (S.files shelf.new) (S.opened shelf.old) (S.opened shelf.new) (S.reach shelf.old) (S.reach shelf.new) }
+{
+    let mut place = from;
+    loop {
+        let found = read_found(shelf, file, place)?;
+        let Some(head) = head_found(found) else {
+            return Err(OpenError::Refused(Refused::NoSegment));
+        };
+        if head.id == ids::SEGMENT {
+            return Ok(Segment {
+                opening: head.body as u64,
+                end: end_of(head.body, head.size),
+            });
+        }
+        match read_element_at(shelf, file, place, found)? {
+            Some(element) => place = element.stop as u64,
+            None => return Err(OpenError::Refused(Refused::NoSegment)),
+        }
+    }
+}
+
+fn is_end(end: Option<u64>, place: u64) -> bool
+    ensures { result ≡ stands_at end place }
+{
+    match end {
+        Some(end) => end == place,
+        None => false,
+    }
+}
+
+// The child of the Segment at a place: no Cluster, and whole in the film and in the Segment.
+fn read_segment_child<S: Shelf>(
+    shelf: &mut S,
+    file: FileNo,
+    end: Option<u64>,
+    place: u64,
+) -> Result<Option<Child>, ReadFault>
+    ensures value { IfOk result (λ c. Told (content (S.files shelf.old) (S.opened shelf.old) file.0) (λ octets. place ≤ length octets → c ≡ segment_child octets end place)) }
+    ensures order { IfOk result (λ c. IfSome c (λ x. (x.place ≡ place) × (place < x.at) × (x.at ≤ x.stop))) }
+    ensures cause { HasCause (S.faults shelf.old) (S.faults shelf.new) result }
+    ensures kept { Keeps (S.files shelf.old) (S.files shelf.new) (S.opened shelf.old) (S.opened shelf.new) (S.reach shelf.old) (S.reach shelf.new) }
+{
+    if is_end(end, place) {
+        return Ok(None);
+    }
+    let found = read_found(shelf, file, place)?;
+    let child = read_element_at(shelf, file, place, found)?;
+    Ok(child_before_cluster(end, child))
+}
+
+fn child_before_cluster(end: Option<u64>, child: Option<Child>) -> Option<Child>
+    ensures value { result ≡ before_cluster end child }
+    ensures same { IfSome result (λ c. child ≡ Some c) }
+{
+    let child = child?;
+    let runs_past = end.is_some_and(|end| end < child.stop as u64);
+    if child.id == ids::CLUSTER || runs_past {
+        None
+    } else {
+        Some(child)
+    }
+}
+
+// The first child of this ID before the first Cluster.
+fn find_first<S: Shelf>(
+    shelf: &mut S,
+    file: FileNo,
+    segment: Segment,
+    id: u32,
+) -> Result<Option<Child>, ReadFault>
+    ensures value { IfOk result (λ c. Told (content (S.files shelf.old) (S.opened shelf.old) file.0) (λ octets. segment.opening ≤ length octets → c ≡ first_child octets segment id)) }
+    ensures order { IfOk result (λ c. IfSome c (λ x. (x.place < x.at) × (x.at ≤ x.stop))) }
+    ensures cause { HasCause (S.faults shelf.old) (S.faults shelf.new) result }
+    ensures kept { Keeps (S.files shelf.old) (S.files shelf.new) (S.opened shelf.old) (S.opened shelf.new) (S.reach shelf.old) (S.reach shelf.new) }
+{
+    let mut place = segment.opening;
+    loop {
+        let Some(child) = read_segment_child(shelf, file, segment.end, place)? else {
+            return Ok(None);
+        };
+        if child.id == id {
+            return Ok(Some(child));
+        }
+        place = child.stop as u64;
+    }
+}
+
+fn info_from(body: &[u8], at: u64) -> Result<u64, OpenError>
+    requires { at + length body.now < 2 ^ 64 }
+    ensures value { Gives result (info_of body.now at) }
+    ensures positive { IfOk result (λ scale. 0 < scale) }
+    ensures pure { ¬ IsErrOf result OpenError.ReadFault }
+{
+    Ok(parse_info(body, at)?)
+}
+
+fn tracks_from(alloc: Global, body: &[u8], at: u64) -> Result<TrackList, OpenError>
+    requires { at + length body.now < 2 ^ 64 }
+    ensures value { Gives result (tracks_of body.now at) }
+    ensures pure { ¬ IsErrOf result OpenError.ReadFault }
+{
+    Ok(parse_tracks(alloc, body, at)?)
+}
+
+fn read_info<S: Shelf>(
+    alloc: Global,
+    shelf: &mut S,
+    file: FileNo,
+    child: Child,
+) -> Result<u64, OpenError>
+    requires { child.at ≤ child.stop }
+    ensures value { Told (content (S.files shelf.old) (S.opened shelf.old) file.0) (λ octets. child.stop ≤ length octets → Gives result (info_in octets child)) }
+    ensures positive { IfOk result (λ scale. 0 < scale) }
+    ensures cause { BeginCause (S.faults shelf.old) (S.faults shelf.new) result }
+    ensures kept { Keeps (S.files shelf.old) (S.files shelf.new) (S.opened shelf.old) (S.opened shelf.new) (S.reach shelf.old) (S.reach shelf.new) }
+{
+    let broken = OpenError::Refused(Refused::Broken(child.place as u64));
+    if child.stop - child.at > LARGEST {
+        return Err(broken);
+    }
+    match read_part(alloc, shelf, file, child.at as u64, child.stop as u64)? {
+        Some(body) => info_from(body.as_slice(), child.at as u64),
+        None => Err(broken),
+    }
+}
+
+fn read_tracks<S: Shelf>(
+    alloc: Global,
+    shelf: &mut S,
+    file: FileNo,
+    child: Child,
+) -> Result<TrackList, OpenError>
+    requires { child.at ≤ child.stop }
+    ensures value { Told (content (S.files shelf.old) (S.opened shelf.old) file.0) (λ octets. child.stop ≤ length octets → Gives result (tracks_in octets child)) }
+    ensures cause { BeginCause (S.faults shelf.old) (S.faults shelf.new) result }
+    ensures kept { Keeps (S.files shelf.old) (S.files shelf.new) (S.opened shelf.old) (S.opened shelf.new) (S.reach shelf.old) (S.reach shelf.new) }
+{
+    let broken = OpenError::Refused(Refused::Broken(child.place as u64));
+    if child.stop - child.at > LARGEST {
+        return Err(broken);
+    }
+    match read_part(alloc, shelf, file, child.at as u64, child.stop as u64)? {
+        Some(body) => tracks_from(alloc, body.as_slice(), child.at as u64),
+        None => Err(broken),
+    }
+}
+
+// Info stands before Tracks.
+fn read_info_first<S: Shelf>(
+    alloc: Global,
+    shelf: &mut S,
+    file: FileNo,
+    info: Child,
+    tracks: Child,
+) -> Result<Header, OpenError>
+    requires info { info.at ≤ info.stop }
+    requires tracks { tracks.at ≤ tracks.stop }
+    ensures value { Told (content (S.files shelf.old) (S.opened shelf.old) file.0) (λ octets. info.stop ≤ length octets → tracks.stop ≤ length octets → Gives result (info_then_tracks octets info tracks)) }
+    ensures positive { IfOk result (λ h. 0 < h.scale) }
+    ensures cause { BeginCause (S.faults shelf.old) (S.faults shelf.new) result }
+    ensures kept { Keeps (S.files shelf.old) (S.files shelf.new) (S.opened shelf.old) (S.opened shelf.new) (S.reach shelf.old) (S.reach shelf.new) }
+{
+    let scale = read_info(alloc, shelf, file, info)?;
+    let tracks = read_tracks(alloc, shelf, file, tracks)?;
+    Ok(Header { scale, tracks })
+}
+
+// Tracks stands before Info.
+fn read_tracks_first<S: Shelf>(
+    alloc: Global,
+    shelf: &mut S,
+    file: FileNo,
+    info: Child,
+    tracks: Child,
+) -> Result<Header, OpenError>
+    requires info { info.at ≤ info.stop }
+    requires tracks { tracks.at ≤ tracks.stop }
+    ensures value { Told (content (S.files shelf.old) (S.opened shelf.old) file.0) (λ octets. info.stop ≤ length octets → tracks.stop ≤ length octets → Gives result (tracks_then_info octets info tracks)) }
+    ensures positive { IfOk result (λ h. 0 < h.scale) }
+    ensures cause { BeginCause (S.faults shelf.old) (S.faults shelf.new) result }
+    ensures kept { Keeps (S.files shelf.old) (S.files shelf.new) (S.opened shelf.old) (S.opened shelf.new) (S.reach shelf.old) (S.reach shelf.new) }
+{
+    let tracks = read_tracks(alloc, shelf, file, tracks)?;
+    let scale = read_info(alloc, shelf, file, info)?;
+    Ok(Header { scale, tracks })
+}
+
+// Info and Tracks, where they were found.
+fn read_found_header<S: Shelf>(
+    alloc: Global,
+    shelf: &mut S,
+    file: FileNo,
+    info: Option<Child>,
+    tracks: Option<Child>,
+) -> Result<Header, OpenError>
+    requires info { IfSome info (λ c. c.at ≤ c.stop) }
+    requires tracks { IfSome tracks (λ c. c.at ≤ c.stop) }
+    ensures value { Told (content (S.files shelf.old) (S.opened shelf.old) file.0) (λ octets. IfSome info (λ c. c.stop ≤ length octets) → IfSome tracks (λ c. c.stop ≤ length octets) → Gives result (header_by octets info tracks)) }
+    ensures positive { IfOk result (λ h. 0 < h.scale) }
+    ensures cause { BeginCause (S.faults shelf.old) (S.faults shelf.new) result }
+    ensures kept { Keeps (S.files shelf.old) (S.files shelf.new) (S.opened shelf.old) (S.opened shelf.new) (S.reach shelf.old) (S.reach shelf.new) }
+{
+    match (info, tracks) {
+        (Some(info), Some(tracks)) => {
+            if info.place < tracks.place {
+                read_info_first(alloc, shelf, file, info, tracks)
+            } else {
+                read_tracks_first(alloc, shelf, file, info, tracks)
+            }
+        }
+        (Some(info), None) => {
+            read_info(alloc, shelf, file, info)?;
+            Err(OpenError::Refused(Refused::NoTracks))
+        }
+        (None, tracks) => {
+            if let Some(tracks) = tracks {
+                read_tracks(alloc, shelf, file, tracks)?;
+            }
+            Err(OpenError::Refused(Refused::NoInfo))
+        }
+    }
+}
+
+/// Info and Tracks, which have to stand before the first Cluster.
+#[tactic(auto, unfolding(mc_walk::specs::Opening::header_of))]
+pub(crate) fn read_header<S: Shelf>(
+    alloc: Global,
+    shelf: &mut S,
+    file: FileNo,
+    segment: Segment,
+) -> Result<Header, OpenError>
+    ensures value { Told (content (S.files shelf.old) (S.opened shelf.old) file.0) (λ octets. segment.opening ≤ length octets → Gives result (header_of octets segment)) }
+    ensures positive { IfOk result (λ h. 0 < h.scale) }
+    ensures cause { BeginCause (S.faults shelf.old) (S.faults shelf.new) result }
+    ensures kept { Keeps (S.files shelf.old) (S.files shelf.new) (S.opened shelf.old) (S.opened shelf.new) (S.reach shelf.old) (S.reach shelf.new) }
+{
+    let info = find_first(shelf, file, segment, ids::INFO)?;
+    let tracks = find_first(shelf, file, segment, ids::TRACKS)?;
+    read_found_header(alloc, shelf, file, info, tracks)
+}
+
+impl Cursor {
+    /// Reads what stands before a film's Clusters (RFC 8794, section 11.2; RFC 9559, section 5.1),
+    /// and stands at the opening mark.
+    ///
+    /// `Refused` exactly where that is refused. `ReadFault` comes only where the shelf's count of
+    /// faults rose in this call, or stands at its last value.
+    pub fn begin<S: Shelf>(alloc: Global, shelf: &mut S, file: FileNo) -> Result<Cursor, OpenError>
+        ensures value { Told (content (S.files shelf.old) (S.opened shelf.old) file.0) (λ octets. Begins octets result) }
+        ensures at { IfOk result (λ c. (mark_of c ≡ opening_mark) × (file_of c ≡ file.0)) }
+        ensures cause { BeginCause (S.faults shelf.old) (S.faults shelf.new) result }
+        ensures kept { Keeps (S.files shelf.old) (S.files shelf.new) (S.opened shelf.old) (S.opened shelf.new) (S.reach shelf.old) (S.reach shelf.new) }
+    {
+        let from = read_ebml_header(alloc, shelf, file)?;
+        let segment = find_segment(shelf, file, from as u64)?;
+        let header = read_header(alloc, shelf, file, segment)?;
+        Ok(Cursor {
+            alloc,
+            file,
+            opening: segment.opening,
+            segment_end: segment.end,
+            scale: header.scale,
+            tracks: header.tracks,
+            mark: Mark {
+                pos: 0,
+                level: Level::Segment,
+            },
+        })
+    }
+}

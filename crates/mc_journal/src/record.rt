@@ -13,6 +13,16 @@ pub enum DemuxRecord {
         by: u32,
         set: Choice,
     },
+    /// A read of the file failed: the shelf's count of faults before and after.
+    Failed {
+        by: u32,
+        before: u64,
+        after: u64,
+    },
+    /// Memory was wanting to read on.
+    Starved {
+        by: u32,
+    },
     /// A reader was given a packet: its place, its time in nanoseconds, the length and the
     /// checksum of its payload, and its marks.
     Gave {
@@ -30,6 +40,18 @@ pub enum DemuxRecord {
         by: u32,
         track: TrackNo,
         ending: Ending,
+    },
+    /// A reader was told of a read that failed, with its counts.
+    Faulted {
+        by: u32,
+        track: TrackNo,
+        before: u64,
+        after: u64,
+    },
+    /// A reader was told that memory was wanting.
+    Wanting {
+        by: u32,
+        track: TrackNo,
     },
 }
 

@@ -17,3 +17,6 @@ reverse-onto (x ∷ xs) h = ap (λ (r : List _). r ++ h) (reverse-append (x ∷ 
 
 pub reverse-is : {X : Type 0} (xs : List X) → reverse xs ≡ onto xs []
 reverse-is xs = sym (append-nil (reverse xs)) ∙ reverse-onto xs []
+
+pub reverse-append_onto : {X : Type 0} (xs ys : List X) → reverse (xs ++ ys) ≡ onto ys (reverse xs)
+reverse-append_onto xs ys = reverse-is (xs ++ ys) ∙ onto-append xs ys [] ∙ ap (onto ys) (sym (reverse-is xs))

@@ -8,7 +8,7 @@ use Rattle.mc_packet.specs.declared.walk.Fault.{Fault}
 use Rattle.mc_packet.specs.declared.walk.Fault.TheVariants as faults
 use Rattle.mc_packet.specs.declared.packet.Pos.{Pos}
 use Rattle.mc_journal.specs.declared.record.DemuxRecord.{DemuxRecord}
-use Rattle.mc_journal.specs.declared.record.DemuxRecord.TheVariants.{Opened, Gave, Ended}
+use Rattle.mc_journal.specs.declared.record.DemuxRecord.TheVariants.{Opened, Failed, Starved, Gave, Ended, Faulted, Wanting}
 
 -- parts of a text, one after the other
 abbrev pub joined : List (List ℕ) → List ℕ
@@ -50,11 +50,24 @@ payload_text len sum mark = joined (codes " len " ∷ decimal len ∷ codes " su
 abbrev pub track_end_text : ℕ → List ℕ
 track_end_text track = joined (codes "end " ∷ decimal track ∷ codes " " ∷ [])
 
+abbrev pub failed_text : ℕ → ℕ → List ℕ
+failed_text before after = joined (codes "failed " ∷ decimal before ∷ codes " " ∷ decimal after ∷ codes "\n" ∷ [])
+
+abbrev pub fault_line : ℕ → ℕ → ℕ → List ℕ
+fault_line track before after = joined (codes "fault " ∷ decimal track ∷ codes " " ∷ decimal before ∷ codes " " ∷ decimal after ∷ codes "\n" ∷ [])
+
+abbrev pub wanting_text : ℕ → List ℕ
+wanting_text track = joined (codes "wanting " ∷ decimal track ∷ codes "\n" ∷ [])
+
 -- the line of a record, or nothing
 abbrev pub line : DemuxRecord → List ℕ
 line (Opened by set) = []
 line (Gave by track pos time len sum sync key) = place_text track pos time ++ payload_text len sum (mark_text sync key)
 line (Ended by track ending) = track_end_text track ++ ending_text ending
+line (Failed by before after) = failed_text before after
+line (Starved by) = codes "starved\n"
+line (Faulted by track before after) = fault_line track before after
+line (Wanting by track) = wanting_text track
 
 abbrev pub transcript : List DemuxRecord → List ℕ
 transcript h = flat_map line h

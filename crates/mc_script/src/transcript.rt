@@ -1,5 +1,5 @@
 ghost use Rattle.std.specs.Prelude.{◌≡◌, string_bytes, IfOk, OnOk, [], ◌∷◌, ◌++◌, codes, decimal};
-ghost use Rattle.mc_script.specs.Transcript.{joined, place_text, payload_text, fault_text, ending_text, track_end_text, line, mark_text, transcript};
+ghost use Rattle.mc_script.specs.Transcript.{joined, place_text, payload_text, fault_text, ending_text, track_end_text, failed_text, fault_line, wanting_text, line, mark_text, transcript};
 
 use mc_journal::{DemuxJournal, DemuxRecord};
 use mc_packet::{Ending, Fault, NoMemory, Pos};
@@ -78,6 +78,24 @@ fn push_payload(text: &mut String, len: u64, sum: u32, mark: &str) -> Result<(),
     write!(text, " len {len} sum {sum} {mark}\n")
 }
 
+fn push_failed(text: &mut String, before: u64, after: u64) -> Result<(), NoMemory>
+    ensures { OnOk result (string_bytes text.new ≡ string_bytes text.old ++ failed_text before after) }
+{
+    write!(text, "failed {before} {after}\n")
+}
+
+fn push_fault(text: &mut String, track: u64, before: u64, after: u64) -> Result<(), NoMemory>
+    ensures { OnOk result (string_bytes text.new ≡ string_bytes text.old ++ fault_line track before after) }
+{
+    write!(text, "fault {track} {before} {after}\n")
+}
+
+fn push_wanting(text: &mut String, track: u64) -> Result<(), NoMemory>
+    ensures { OnOk result (string_bytes text.new ≡ string_bytes text.old ++ wanting_text track) }
+{
+    write!(text, "wanting {track}\n")
+}
+
 // Adds the line of a record.
 fn push_line(text: &mut String, entry: &DemuxRecord) -> Result<(), NoMemory>
     ensures { OnOk result (string_bytes text.new ≡ string_bytes text.old ++ line entry.now) }
@@ -101,6 +119,15 @@ fn push_line(text: &mut String, entry: &DemuxRecord) -> Result<(), NoMemory>
             push_track_end(text, track)?;
             push_ending(text, ending)
         }
+        DemuxRecord::Failed { before, after, .. } => push_failed(text, before, after),
+        DemuxRecord::Starved { .. } => text.push_str("starved\n"),
+        DemuxRecord::Faulted {
+            track,
+            before,
+            after,
+            ..
+        } => push_fault(text, track, before, after),
+        DemuxRecord::Wanting { track, .. } => push_wanting(text, track),
     }
 }
 

@@ -87,6 +87,8 @@ fn another_track(rt: HostRuntime) -> Result<(), Fail> {
     Ok(())
 }
 
+const FAILED: &str = "failed 0 1\nfault 1 0 1\nfault 2 0 1\n";
+
 #[test]
 fn reads_that_fail(rt: HostRuntime) -> Result<(), Fail> {
     for at in 0..228 {
@@ -95,7 +97,14 @@ fn reads_that_fail(rt: HostRuntime) -> Result<(), Fail> {
             before: 0,
             after: 1,
         });
-        assert_eq!(rt; (exit, text.len()), (rose, 0), "spot at {at}");
+        assert_eq!(rt; exit, rose, "spot at {at}");
+        let count = text.iter().filter(|octet| **octet == b'\n').count();
+        let wanted = match count.checked_sub(3) {
+            Some(packets) => format!(in rt.alloc(); "{}{FAILED}", lines(packets))?,
+            None => String::new(rt.alloc()),
+        };
+        assert_eq!(rt; text.as_slice(), wanted.as_bytes(), "spot at {at}");
+        assert_eq!(rt; count == 0, at < 78, "spot at {at}");
     }
     Ok(())
 }

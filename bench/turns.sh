@@ -1,6 +1,6 @@
 #!/bin/sh
 # Prints a table of the turns and looks that the lock and the board give in a second.
-# Build first: (cd crates/turn_bench && rt build), or any rt ci, rt run or rt check of it.
+# Build first: rt ci, or rt check in crates/turn_bench.
 # Usage: bench/turns.sh [TURNS [LOOKS]]   turns of all threads together, and looks
 set -e
 here=$(cd "$(dirname "$0")/.." && pwd)

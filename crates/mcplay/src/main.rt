@@ -19,6 +19,8 @@ usage: mcplay run FILE
   give TRACK at OFFSET.FRAME time NANOSECONDS len OCTETS sum CHECKSUM sync|key|inter
 and then for each of them how the film ended:
   end TRACK clean | end TRACK cut OFFSET | end TRACK damaged OFFSET FAULT
+or, where a read of the file failed, how many had failed before and after it:
+  failed BEFORE AFTER, and for each of them: fault TRACK BEFORE AFTER
 
 status: 0 done, 1 out of memory, 2 usage, 3 cannot read, 4 cannot write, 5 file refused
 ";

@@ -1,6 +1,6 @@
 #!/bin/sh
 # Prints a table of the turns and looks that the lock and the board give in a second.
-# Build first: rt ci, or rt check in crates/turn_bench.
+# Build first: rt ci, or rt run in crates/turn_bench.
 # Usage: bench/turns.sh [TURNS [LOOKS]]   turns of all threads together, and looks
 set -e
 here=$(cd "$(dirname "$0")/.." && pwd)

@@ -1,35 +1,39 @@
 ghost use Rattle.std.specs.Prelude.{◌≡◌, ◌≤◌, ◌<◌, length, IfOk, IfErr, IfSome};
 ghost use Rattle.mc_outside.specs.Causes.{HasCause};
-ghost use Rattle.mc_outside.specs.Shelf.{InBounds, OpenCause, faults_after_open, faults_after_read};
+ghost use Rattle.mc_outside.specs.Shelf.{InBounds, KeepsOpen, OpenCause, Opens, faults_after_open, faults_after_read};
 ghost use Rattle.mc_outside.specs.Sink.{Took, WriteCause, faults_after_write};
 
 use crate::shelf::{Failed, FileNo, Shelf, ShelfError};
 use crate::sink::{Sink, SinkError};
+use crate::window::{END, Window, read_from};
 use std::alloc::Global;
 use std::fs;
-use std::io::{Error, ErrorKind, Read, Result as IoResult, Seek, SeekFrom, Write};
+use std::io::{Error, ErrorKind, Result as IoResult, Write};
 use std::rt::Files;
-
-/// The end of what is read of a file: no octet at or past this place is given.
-const END: u64 = 0x7fff_ffff_ffff_ffff;
 
 /// The files of the system, by their paths. It tells no content, and is trusted to give that of
 /// the files. Each call that the system refuses counts a fault, as far as a `u64` counts.
+///
+/// It keeps a window of 65,536 octets of the file that was read last, so that reads of few octets
+/// seldom ask the system. A read of more octets than that goes straight into its buffer.
 #[derive(Drop)]
 pub struct FileShelf<'a, R: Files> {
     rt: &'a R,
     files: Vec<R::File>,
+    window: Window,
     faults: u64,
 }
 
 impl<'a, R: Files> FileShelf<'a, R> {
-    /// A shelf on which no file is open yet. It takes memory as files are opened.
+    /// A shelf on which no file is open yet. It takes memory as files are opened, for its window
+    /// at the first.
     pub fn new(rt: &'a R, alloc: Global) -> FileShelf<'a, R>
         ensures { ⟦<FileShelf<'a, R> as Shelf>⟧.faults result ≡ 0 }
     {
         FileShelf {
             rt,
             files: Vec::new(alloc),
+            window: Window::new(alloc),
             faults: 0,
         }
     }
@@ -37,7 +41,11 @@ impl<'a, R: Files> FileShelf<'a, R> {
     fn open(&mut self, name: &str) -> Result<FileNo, ShelfError>
         ensures cause { OpenCause None name.now self.old.faults self.new.faults result }
         ensures faults { self.new.faults ≡ faults_after_open result self.old.faults }
+        ensures number { IfOk result (λ n. n.0 ≡ length self.old.files.items) }
     {
+        if self.window.make_room().is_err() {
+            return Err(ShelfError::NoMemory);
+        }
         let number = u32::try_from(self.files.len());
         match (number, fs::open(self.rt, name)) {
             (Ok(number), Ok(file)) => match self.files.push(file) {
@@ -66,38 +74,28 @@ impl<'a, R: Files> FileShelf<'a, R> {
     }
 
     // Reads some octets of an opened file. None: the system refused.
-    fn part(&mut self, file: FileNo, pos: u64, buf: &mut [u8]) -> Option<usize>
+    fn part(&mut self, number: FileNo, pos: u64, buf: &mut [u8]) -> Option<usize>
         ensures bounds { IfSome result (λ n. InBounds pos buf.new n) }
         ensures faults { self.new.faults ≡ self.old.faults }
     {
+        let file = self.files.get_mut(number.0 as usize)?;
         if pos >= END {
             return Some(0);
         }
-        let file = self.files.get_mut(file.0 as usize)?;
-        file.seek(SeekFrom::Start(pos)).ok()?;
-        let room = END - pos;
-        if (buf.len() as u64) <= room {
-            read_some(file, buf).ok()
-        } else {
-            read_some(file, &mut buf[..room as usize]).ok()
+        let held = self.window.copy_to(number, pos, buf);
+        if held > 0 || buf.is_empty() {
+            return Some(held);
         }
+        if self.window.has_room_for(buf.len()) {
+            self.window.fill(file, number, pos).ok()?;
+            return Some(self.window.copy_to(number, pos, buf));
+        }
+        let count = buf.len().min((END - pos) as usize);
+        read_from(file, pos, &mut buf[..count]).ok()
     }
 }
 
-// One read, begun again as often as it is interrupted.
-pub(crate) fn read_some<R: Read>(reader: &mut R, buf: &mut [u8]) -> IoResult<usize>
-    ensures { IfOk result (λ n. n ≤ length buf.new) }
-{
-    for _ in 0..u64::MAX {
-        match reader.read(buf) {
-            Err(e) if e.kind() == ErrorKind::Interrupted => {}
-            answer => return answer,
-        }
-    }
-    Err(Error::from(ErrorKind::Interrupted))
-}
-
-impl<R: Files> Shelf for FileShelf<'_, R> {
+impl<'a, R: Files> Shelf for FileShelf<'a, R> {
     ghost use Rattle.std.specs.Prelude.{None};
 
     ghost files = { λ s. None };
@@ -112,12 +110,17 @@ impl<R: Files> Shelf for FileShelf<'_, R> {
 
     /// Opens a path for reading. It never answers `NotFound`: a path that cannot be opened is a
     /// fault.
-    fn open_file(&mut self, name: &str) -> Result<FileNo, ShelfError> {
+    fn open_file(&mut self, name: &str) -> Result<FileNo, ShelfError>
+        ensures opens { IfOk result (λ n. Opens (⟦<FileShelf<'a, R> as Shelf>⟧.files self.new) (⟦<FileShelf<'a, R> as Shelf>⟧.opened self.new) name.now n.0) }
+        ensures cause { OpenCause (⟦<FileShelf<'a, R> as Shelf>⟧.files self.old) name.now (⟦<FileShelf<'a, R> as Shelf>⟧.faults self.old) (⟦<FileShelf<'a, R> as Shelf>⟧.faults self.new) result }
+        ensures kept { KeepsOpen (⟦<FileShelf<'a, R> as Shelf>⟧.files self.old) (⟦<FileShelf<'a, R> as Shelf>⟧.files self.new) (⟦<FileShelf<'a, R> as Shelf>⟧.opened self.old) (⟦<FileShelf<'a, R> as Shelf>⟧.opened self.new) (⟦<FileShelf<'a, R> as Shelf>⟧.reach self.old) (⟦<FileShelf<'a, R> as Shelf>⟧.reach self.new) }
+        ensures number { IfOk result (λ n. n.0 ≡ length self.old.files.items) }
+    {
         self.open(name)
     }
 
-    /// One read of the system, begun again where it is interrupted. A number that this shelf
-    /// did not give is a fault.
+    /// What the window holds from there on, or else one read of the system, begun again where it is
+    /// interrupted. A number that this shelf did not give is a fault.
     fn read_at(&mut self, file: FileNo, pos: u64, buf: &mut [u8]) -> Result<usize, Failed> {
         self.read(file, pos, buf)
     }

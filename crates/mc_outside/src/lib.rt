@@ -16,6 +16,7 @@ mod spots;
 #[cfg(test)]
 mod tests;
 mod texts;
+mod window;
 
 pub use edge::{FileShelf, StdSink};
 pub use memory::{CleanShelf, MemShelf};

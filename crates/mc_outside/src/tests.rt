@@ -1,6 +1,6 @@
 ghost use Rattle.std.specs.Prelude.{◌≡◌, ◌≤◌, length, IfOk};
 
-use crate::edge::read_some;
+use crate::window::read_some;
 use crate::*;
 use std::io::{ErrorKind, Read, Write};
 use std::test::Fail;
@@ -191,6 +191,53 @@ fn reads_the_system(rt: HostRuntime) -> Result<(), Fail> {
     );
     assert_eq!(rt; shelf.read_at(FileNo(1), 0, &mut buf), Err(Failed));
     assert_eq!(rt; shelf.fault_count(), 2);
+    fs::remove_file(&rt, path)?;
+    Ok(())
+}
+
+// The octet at a place of a file whose octets tell where they stand.
+fn octet_at(place: u64) -> u8 {
+    (place % 251) as u8
+}
+
+// Few octets come out of the window, many straight from the system, and each from its place.
+#[test]
+fn reads_through_the_window(rt: HostRuntime) -> Result<(), Fail> {
+    let path = "mc_outside_window_test.tmp";
+    let alloc = rt.alloc();
+    let mut octets = Vec::new(alloc);
+    for place in 0..200_000u64 {
+        octets.push(octet_at(place))?;
+    }
+    fs::write(&rt, path, octets.as_slice())?;
+    let mut shelf = FileShelf::new(&rt, alloc);
+    let file = shelf.open_file(path).ok().ok_or(Fail)?;
+    for (pos, size, want) in [
+        (0u64, 12usize, 12usize),
+        (12, 12, 12),
+        (4_090, 12, 12),
+        (4_096, 65_536, 65_536),
+        (69_999, 2, 2),
+        (69_990, 4, 4),
+        (69_995, 65_537, 65_537),
+        (150_000, 100_000, 50_000),
+        (199_999, 10, 1),
+        (200_000, 1, 0),
+        (0, 200_001, 200_000),
+    ] {
+        let mut buf = vec![in alloc; 0u8; size]?;
+        assert_eq!(rt;
+            read_full(&mut shelf, file, pos, buf.as_mut_slice()),
+            Ok(want),
+            "from {pos}"
+        );
+        for (i, octet) in buf[..want].iter().enumerate() {
+            if *octet != octet_at(pos + i as u64) {
+                return Err(Fail);
+            }
+        }
+    }
+    assert_eq!(rt; shelf.fault_count(), 0);
     fs::remove_file(&rt, path)?;
     Ok(())
 }

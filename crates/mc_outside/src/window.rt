@@ -1,0 +1,141 @@
+ghost use Rattle.std.specs.Prelude.{◌≡◌, ◌≤◌, ◌<◌, ◌+◌, ◌-◌, ◌^◌, length, IfOk};
+ghost use Rattle.mc_outside.specs.Shelf.{InBounds};
+
+use crate::shelf::FileNo;
+use std::alloc::{AllocError, Global};
+use std::io::{Error, ErrorKind, Read, Result as IoResult, Seek, SeekFrom};
+
+/// The end of what is read of a file: no octet at or past this place is given.
+pub(crate) const END: u64 = 0x7fff_ffff_ffff_ffff;
+
+/// The octets that a window has room for.
+const SIZE: usize = 65_536;
+
+/// The octets that are asked for at a place that does not follow on what was read before.
+const LEAST: usize = 4_096;
+
+/// A part of a file, kept in memory, so that reads of few octets need not ask the system. A read
+/// that goes on where the window ends asks for twice as many octets as the one before.
+#[derive(Drop)]
+pub(crate) struct Window {
+    file: FileNo,
+    start: u64,
+    // Its first `filled` octets are those of the file from `start` on.
+    octets: Vec<u8>,
+    filled: usize,
+    // How many octets were asked for last.
+    size: usize,
+    ghost within: { filled ≤ length octets.items },
+    ghost before_end: { start + filled ≤ 2 ^ 63 - 1 },
+}
+
+impl Window {
+    /// A window that holds nothing and has no room yet.
+    pub(crate) fn new(alloc: Global) -> Window {
+        Window {
+            file: FileNo(0),
+            start: 0,
+            octets: Vec::new(alloc),
+            filled: 0,
+            size: LEAST,
+        }
+    }
+
+    /// Makes its room, where it has none.
+    pub(crate) fn make_room(&mut self) -> Result<(), AllocError> {
+        if self.octets.is_empty() {
+            let alloc = *self.octets.allocator();
+            self.octets = vec![in alloc; 0u8; SIZE]?;
+            self.filled = 0;
+        }
+        Ok(())
+    }
+
+    /// Whether a read of so many octets goes through the window.
+    pub(crate) fn has_room_for(&self, count: usize) -> bool {
+        count <= self.octets.len()
+    }
+
+    /// Copies what it holds of a file from a place on, as far as `buf` reaches.
+    pub(crate) fn copy_to(&self, file: FileNo, pos: u64, buf: &mut [u8]) -> usize
+        ensures { InBounds pos buf.new result }
+    {
+        if file != self.file || pos < self.start {
+            return 0;
+        }
+        let skipped = pos - self.start;
+        if skipped >= self.filled as u64 {
+            return 0;
+        }
+        let held = &self.octets[skipped as usize..self.filled];
+        let count = held.len().min(buf.len());
+        buf[..count].copy_from_slice(&held[..count]);
+        count
+    }
+
+    /// Reads a part of a file from a place on. After an error it holds nothing.
+    pub(crate) fn fill<F: Read + Seek>(
+        &mut self,
+        source: &mut F,
+        file: FileNo,
+        pos: u64,
+    ) -> IoResult<()>
+        requires { pos < 2 ^ 63 - 1 }
+    {
+        self.size = self.next_size(file, pos);
+        let asked = self.asked(pos);
+        self.filled = 0;
+        let count = read_from(source, pos, &mut self.octets[..asked])?;
+        self.hold(file, pos, count);
+        Ok(())
+    }
+
+    // Twice the size where a read goes on from the window's end, else the least.
+    fn next_size(&self, file: FileNo, pos: u64) -> usize {
+        if file == self.file && pos == self.start + self.filled as u64 {
+            self.size.saturating_mul(2).min(SIZE)
+        } else {
+            LEAST
+        }
+    }
+
+    // How many octets a read from a place on asks for.
+    fn asked(&self, pos: u64) -> usize
+        requires { pos < 2 ^ 63 - 1 }
+        ensures within { result ≤ length self.now.octets.items }
+        ensures before_end { pos + result ≤ 2 ^ 63 - 1 }
+    {
+        let room = (END - pos) as usize;
+        self.size.min(room).min(self.octets.len())
+    }
+
+    // Its first octets are those of a file from a place on.
+    fn hold(&mut self, file: FileNo, pos: u64, count: usize)
+        requires { pos + count ≤ 2 ^ 63 - 1 }
+    {
+        self.file = file;
+        self.start = pos;
+        self.filled = count.min(self.octets.len());
+    }
+}
+
+/// One read from a place on.
+pub(crate) fn read_from<F: Read + Seek>(source: &mut F, pos: u64, buf: &mut [u8]) -> IoResult<usize>
+    ensures { IfOk result (λ n. n ≤ length buf.new) }
+{
+    source.seek(SeekFrom::Start(pos))?;
+    read_some(source, buf)
+}
+
+/// One read, begun again as often as it is interrupted.
+pub(crate) fn read_some<R: Read>(reader: &mut R, buf: &mut [u8]) -> IoResult<usize>
+    ensures { IfOk result (λ n. n ≤ length buf.new) }
+{
+    for _ in 0..u64::MAX {
+        match reader.read(buf) {
+            Err(e) if e.kind() == ErrorKind::Interrupted => {}
+            answer => return answer,
+        }
+    }
+    Err(Error::from(ErrorKind::Interrupted))
+}

@@ -211,9 +211,9 @@ fn reads_through_the_window(rt: HostRuntime) -> Result<(), Fail> {
     }
     fs::write(&rt, path, octets.as_slice())?;
     let mut shelf = FileShelf::new(&rt, alloc);
-    let file = shelf.open_file(path).ok().ok_or(Fail)?;
+    assert_eq!(rt; shelf.open_file(path), Ok(FileNo(0)));
     for (pos, size, want) in [
-        (0u64, 12usize, 12usize),
+        (0u32, 12u32, 12usize),
         (12, 12, 12),
         (4_090, 12, 12),
         (4_096, 65_536, 65_536),
@@ -225,16 +225,14 @@ fn reads_through_the_window(rt: HostRuntime) -> Result<(), Fail> {
         (200_000, 1, 0),
         (0, 200_001, 200_000),
     ] {
-        let mut buf = vec![in alloc; 0u8; size]?;
+        let mut buf = vec![in alloc; 0u8; size as usize]?;
         assert_eq!(rt;
-            read_full(&mut shelf, file, pos, buf.as_mut_slice()),
+            read_full(&mut shelf, FileNo(0), pos as u64, buf.as_mut_slice()),
             Ok(want),
             "from {pos}"
         );
         for (i, octet) in buf[..want].iter().enumerate() {
-            if *octet != octet_at(pos + i as u64) {
-                return Err(Fail);
-            }
+            assert_eq!(rt; *octet, octet_at(pos as u64 + i as u64));
         }
     }
     assert_eq!(rt; shelf.fault_count(), 0);

@@ -5,6 +5,7 @@
 #![tactic(auto)]
 
 mod conversion;
+mod equality;
 mod json_string;
 mod number;
 mod octets;

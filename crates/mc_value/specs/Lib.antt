@@ -1,0 +1,5 @@
+pub mod Conversions
+pub mod Numbers
+pub mod Paths
+pub mod Seconds
+pub mod Values

@@ -1,0 +1,4 @@
+pub mod DigitLemmas
+pub mod MapLemmas
+pub mod PathLemmas
+pub mod SecondsLemmas

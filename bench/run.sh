@@ -1,24 +1,34 @@
 #!/usr/bin/env bash
 # Times `mcplay run FILM` beside other readers of the same films, each as a ratio to `cat`, and
-# their peak memory. Usage: bench/run.sh [FILM...]; without a film it makes one of about 200 MB
-# with ffmpeg in bench/films. Tools that are missing are skipped.
+# their peak memory; and counts mcplay's system calls, where strace is at hand. Usage:
+# bench/run.sh [FILM...]; without a film it makes two with ffmpeg in bench/films: one of about
+# 200 MB with large packets, and one of about 1 GB with 517,500 small ones. Tools that are missing
+# are skipped.
 cd "$(dirname "$0")/.." || exit 1
 program=crates/mcplay/out/mcplay
 runs=${RUNS:-5}
 [ -x "$program" ] || { echo "no $program: run 'rt ci' or './mcplay --version' first"; exit 1; }
 
 make_film() {
+    [ -f "$1" ] && return
     command -v ffmpeg >/dev/null || { echo "no ffmpeg to make a film with"; exit 1; }
     mkdir -p bench/films
-    # mpeg2 at a fixed high rate, and PCM: many octets for little work
-    ffmpeg -v error -y -f lavfi -i testsrc2=size=1280x720:rate=25 -f lavfi -i sine=frequency=440:sample_rate=48000 \
-        -t "$2" -c:v mpeg2video -b:v 40M -minrate 40M -maxrate 40M -bufsize 8M -g 12 -c:a pcm_s16le "$1" || exit 1
+    echo "making $1"
+    local sine=sine=frequency=440:sample_rate=48000
+    case $1 in
+        *200MB*) # mpeg2 at a fixed high rate, and PCM: many octets for little work
+            ffmpeg -v error -y -f lavfi -i testsrc2=size=1280x720:rate=25 -f lavfi -i $sine -t 40 \
+                -c:v mpeg2video -b:v 40M -minrate 40M -maxrate 40M -bufsize 8M -g 12 -c:a pcm_s16le "$1" ;;
+        *) # small raw pictures and PCM, for two hours
+            ffmpeg -v error -y -f lavfi -i testsrc2=size=48x24:rate=25 -f lavfi -i $sine -t 7200 \
+                -c:v rawvideo -pix_fmt yuv420p -c:a pcm_s16le "$1" ;;
+    esac || exit 1
 }
 
 films=("$@")
 if [ ${#films[@]} -eq 0 ]; then
-    films=(bench/films/about-200MB.mkv)
-    [ -f "${films[0]}" ] || make_film "${films[0]}" 40
+    films=(bench/films/about-200MB.mkv bench/films/about-1GB.mkv)
+    for film in "${films[@]}"; do make_film "$film"; done
 fi
 
 # the median of the seconds of some runs, and the greatest resident memory in MB
@@ -48,9 +58,16 @@ for film in "${films[@]}"; do
     report cat cat "$film"
     report "mcplay run" "$program" run "$film"
     command -v ffmpeg >/dev/null && report "ffmpeg -map 0 -c copy -f framecrc" ffmpeg -v error -i "$film" -map 0 -c copy -f framecrc -
+    command -v ffprobe >/dev/null && report "ffprobe -show_packets, checksums" ffprobe -v error -show_packets -show_data_hash CRC32 -of csv "$film"
     if command -v mkvextract >/dev/null; then
         tracks=$(mkvmerge -J "$film" | python3 -c 'import json,sys; print(" ".join("%d:/dev/null" % t["id"] for t in json.load(sys.stdin)["tracks"]))')
         # shellcheck disable=SC2086
         report "mkvextract tracks" mkvextract "$film" tracks $tracks
+    fi
+    if command -v strace >/dev/null; then
+        counts=$(mktemp)
+        strace -c -f -o "$counts" "$program" run "$film" >/dev/null
+        echo "system calls of mcplay run: $(awk '$NF == "total" { print $4 }' "$counts")"
+        rm -f "$counts"
     fi
 done

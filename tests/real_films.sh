@@ -1,28 +1,42 @@
 #!/usr/bin/env bash
 # Runs the proved program on each film of a folder beside the repository that has a file
-# NAME.run, and compares what it prints with that file. Skipped, saying so, where the folder or
-# the program is missing.
+# NAME.run, and compares what it prints with that file; then the same films held in memory, with
+# reads that give at most 1, 7 and 4096 octets. Skipped, saying so, where the folder or the
+# program is missing.
 cd "$(dirname "$0")/.." || exit 1
 films=${FILMS:-../shared/films}
 program=crates/mcplay/out/mcplay
+short_reads=crates/short_reads/out/short_reads
 if [ ! -d "$films" ]; then
     echo "real films: skipped, no folder $films"
     exit 0
 fi
-if [ ! -x "$program" ]; then
-    echo "real films: no program $program; run 'rt ci' first"
-    exit 1
-fi
+for needed in "$program" "$short_reads"; do
+    if [ ! -x "$needed" ]; then
+        echo "real films: no program $needed; run 'rt ci' first"
+        exit 1
+    fi
+done
 passed=0
 failed=0
-for lines in "$films"/*.run; do
-    film=${lines%.run}
-    if "$program" run "$film" | cmp -s - "$lines"; then
+# Compares what a command prints for a film with the lines that it owes.
+check() {
+    local name=$1 lines=$2
+    shift 2
+    if "$@" | cmp -s - "$lines"; then
         passed=$((passed + 1))
     else
-        echo "real films: $(basename "$film") differs"
+        echo "real films: $name differs"
         failed=$((failed + 1))
     fi
+}
+for lines in "$films"/*.run; do
+    film=${lines%.run}
+    name=$(basename "$film")
+    check "$name" "$lines" "$program" run "$film"
+    for most in 1 7 4096; do
+        check "$name with reads of $most" "$lines" "$short_reads" "$most" "$film"
+    done
 done
 echo "films: $passed passed, $failed failed"
 [ "$failed" -eq 0 ]

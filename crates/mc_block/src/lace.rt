@@ -31,8 +31,8 @@ fn lacing_of(flags: u8) -> Lacing
     }
 }
 
-/// Whether a block with these flags has a lace.
-pub(crate) fn is_laced(flags: u8) -> bool
+/// Whether a block with these flags has a lace (RFC 9559, section 10.1).
+pub fn is_laced(flags: u8) -> bool
     ensures { MatchBool result (lacing_of flags ≢ Single) (lacing_of flags ≡ Single) }
 {
     lacing_of(flags) != Lacing::Single

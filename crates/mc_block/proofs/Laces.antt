@@ -1,9 +1,9 @@
 -- Sizes and spans of a lace, one after another.
-use Rattle.std.proofs.Common.{◌≡◌, ℕ, suc, ◌+◌, ◌-◌, ◌<◌, Option, drop, arith, List, [], ◌∷◌, ◌++◌, length, Some, None, Ok, refl, sym, ap, ◌∙◌, append_assoc}
+use Rattle.std.proofs.Common.{◌≡◌, ℕ, suc, ◌+◌, ◌-◌, ◌<◌, Option, drop, arith, false, List, [], ◌∷◌, ◌++◌, length, Some, None, Ok, refl, sym, ap, ◌∙◌, append_assoc}
 use Rattle.std.proofs.lemmas.List.{drop-drop}
 use Rattle.mc_block.specs.declared.lace.Lacing.{Lacing}
-use Rattle.mc_block.specs.Frames.{Front, size_in_front, next_size, coded_sizes, lacing_of, frames_in, frames_of}
-use Rattle.mc_block.specs.declared.lace.Lacing.TheVariants.{Single}
+use Rattle.mc_block.specs.Frames.{Front, size_in_front, next_size, coded_sizes, lacing_of, has_lace, is_laced, frames_in, frames_of}
+use Rattle.mc_block.specs.declared.lace.Lacing.TheVariants.{Single, Xiph, Fixed, Ebml}
 
 -- sizes in front of others
 abbrev pub sizes_in_front : List ℕ → Front (List ℕ) → Front (List ℕ)
@@ -30,6 +30,12 @@ goes_on lacing n i size taken at before octets found total lt next so_far =
     sym one ∙ so_far
 
 -- a block without a lace
-pub single_frame : (flags : ℕ) (rest : List ℕ) → lacing_of flags ≡ Single → frames_of flags rest ≡ Ok ((0, length rest) ∷ [])
+lone : (lacing : Lacing) (rest : List ℕ) → has_lace lacing ≡ false → frames_in lacing rest ≡ Ok ((0, length rest) ∷ [])
+lone Single rest e = refl
+lone Xiph rest e = absurd (cc e)
+lone Fixed rest e = absurd (cc e)
+lone Ebml rest e = absurd (cc e)
+
+pub single_frame : (flags : ℕ) (rest : List ℕ) → is_laced flags ≡ false → frames_of flags rest ≡ Ok ((0, length rest) ∷ [])
 unfolding frames_of
-single_frame flags rest e = ap (λ (l : Lacing). frames_in l rest) e
+single_frame flags rest e = lone (lacing_of flags) rest e

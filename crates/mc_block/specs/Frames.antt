@@ -1,5 +1,5 @@
 -- The frames of a block (RFC 9559, section 10.3): where each begins and ends behind the block's flags.
-use Rattle.std.specs.Prelude.{ℕ, zero, suc, ◌+◌, ◌-◌, ◌*◌, ◌/◌, ◌%◌, ◌^◌, ◌≤◌, ◌≡◌, nat_lt, nat_le, ◌==◌, if◌then◌else◌, List, [], ◌∷◌, length, drop, sum, replicate, Option, Some, None, option_map, Result, Ok, Err, ℤ, pos, negsuc, ◌+ℤ◌, ◌-ℤ◌}
+use Rattle.std.specs.Prelude.{Bool, true, false, ℕ, zero, suc, ◌+◌, ◌-◌, ◌*◌, ◌/◌, ◌%◌, ◌^◌, ◌≤◌, ◌≡◌, nat_lt, nat_le, ◌==◌, if◌then◌else◌, List, [], ◌∷◌, length, drop, sum, replicate, Option, Some, None, option_map, Result, Ok, Err, ℤ, pos, negsuc, ◌+ℤ◌, ◌-ℤ◌}
 use Rattle.mc_ebml.specs.declared.read.Size.{Size}
 use Rattle.mc_ebml.specs.declared.read.Size.TheVariants.{Known, Unknown}
 use Rattle.mc_ebml.specs.declared.read.Coded.{Coded}
@@ -113,6 +113,14 @@ laced lacing (n ∷ octets) = fitted (length (n ∷ octets)) (lace_sizes lacing 
 abbrev pub lacing_of : ℕ → Lacing
 lacing_of flags = let bits = flags / 2 % 4 in
     if bits == 0 then Single else (if bits == 1 then Xiph else (if bits == 2 then Fixed else Ebml))
+
+abbrev pub has_lace : Lacing → Bool
+has_lace Single = false
+has_lace other = true
+
+-- whether a block with these flags has a lace
+abbrev pub is_laced : ℕ → Bool
+is_laced flags = has_lace (lacing_of flags)
 
 abbrev pub frames_in : Lacing → List ℕ → Result (List (ℕ × ℕ)) BlockError
 frames_in Single rest = Ok ((0, length rest) ∷ [])

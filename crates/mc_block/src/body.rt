@@ -44,14 +44,15 @@ pub fn block_head(body: &[u8]) -> Result<BlockHead, BlockError>
     })
 }
 
-/// The track number of a block, before anything else of it is looked at.
+/// The track number with which a block's octets begin, before anything else of them is looked at.
 ///
 /// `ShortBlock` exactly where it does not stand whole or begins with octet 0.
 #[tactic(auto, unfolding(crate::specs::Block::track_of))]
-pub fn block_track(body: &BlockBody) -> Result<TrackNo, BlockError>
-    ensures { result ≡ track_of body.now.octets }
+pub fn block_track(octets: &[u8]) -> Result<TrackNo, BlockError>
+    ensures value { result ≡ track_of octets.now }
+    ensures small { IfOk result (λ n. n < 2 ^ 56) }
 {
-    let number = read_number(body.octets.as_slice())?;
+    let number = read_number(octets)?;
     Ok(number.value)
 }
 
@@ -60,7 +61,8 @@ pub fn block_track(body: &BlockBody) -> Result<TrackNo, BlockError>
 ///
 /// `TooLarge` exactly where the body has more than 67,108,864 octets; it may give `NoMemory`.
 pub fn simple_body(body: &Bytes) -> Result<BlockBody, BlockError>
-    ensures { Gives result (simple_body_of body.now) }
+    ensures value { Gives result (simple_body_of body.now) }
+    ensures small { IfOk result (λ block. length block.octets ≤ 67108864) }
 {
     if body.len() > MOST {
         return Err(BlockError::TooLarge);

@@ -90,7 +90,8 @@ fn read_children(octets: &[u8]) -> Option<Found>
 /// where a child has no whole head or no size, or runs past the body's end; it may give `NoMemory`.
 #[tactic(auto, unfolding(crate::specs::Block::group_body_of))]
 pub fn group_body(body: &Bytes) -> Result<Option<BlockBody>, BlockError>
-    ensures { Gives result (group_body_of body.now) }
+    ensures value { Gives result (group_body_of body.now) }
+    ensures small { IfOk result (λ found. IfSome found (λ block. length block.octets ≤ 67108864)) }
 {
     if body.len() > MOST {
         return Err(BlockError::TooLarge);

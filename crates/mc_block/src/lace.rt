@@ -1,7 +1,6 @@
-ghost use Rattle.std.specs.Prelude.{◌≡◌, ◌+◌, ◌-◌, ◌<◌, ◌≤◌, length, sum, nat_le, if◌then◌else◌, Ok, Err, All, IfOk, [], ◌∷◌, MatchBool, ◌≢◌};
-ghost use Rattle.mc_block.specs.declared.lace.Lacing.TheVariants.{Single};
+ghost use Rattle.std.specs.Prelude.{◌≡◌, ◌+◌, ◌-◌, ◌<◌, ◌≤◌, length, sum, nat_le, if◌then◌else◌, Ok, Err, All, IfOk, [], ◌∷◌};
 ghost use Rattle.mc_block.specs.declared.error.BlockError.TheVariants.{BadLace};
-ghost use Rattle.mc_block.specs.Frames.{lacing_of, laced, spans, frames_in, frames_of, LiesIn, FillUp};
+ghost use Rattle.mc_block.specs.Frames.{lacing_of, is_laced, laced, spans, frames_in, frames_of, LiesIn, FillUp};
 ghost use Rattle.mc_block.specs.Block.{Gives};
 
 use crate::error::BlockError;
@@ -31,11 +30,14 @@ fn lacing_of(flags: u8) -> Lacing
     }
 }
 
-/// Whether a block with these flags has a lace.
-pub(crate) fn is_laced(flags: u8) -> bool
-    ensures { MatchBool result (lacing_of flags ≢ Single) (lacing_of flags ≡ Single) }
+/// Whether a block with these flags has a lace (RFC 9559, section 10.1).
+pub fn is_laced(flags: u8) -> bool
+    ensures { result ≡ is_laced flags }
 {
-    lacing_of(flags) != Lacing::Single
+    match lacing_of(flags) {
+        Lacing::Single => false,
+        Lacing::Xiph | Lacing::Fixed | Lacing::Ebml => true,
+    }
 }
 
 // Frames of these sizes, one behind another from a place on, and one more up to the end.

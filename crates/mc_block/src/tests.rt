@@ -79,7 +79,7 @@ fn writes_blocks(rt: HostRuntime) -> Result<(), Fail> {
     write_simple_block(&mut out, 1, -5, true, &[0xAA])?;
     assert!(rt; out.as_slice() == [0xA3, 0x85, 0x81, 0xFF, 0xFB, 0x80, 0xAA].as_slice());
     let block = simple_body(&Bytes::copy_from_slice(alloc, &out[2..])?)?;
-    assert_eq!(rt; block_track(&block), Ok(1));
+    assert_eq!(rt; block_track(block.octets.as_slice()), Ok(1));
     let head = BlockHead {
         track: 1,
         relative: -5,

@@ -42,9 +42,11 @@ fn start(place: &Place, head: BlockHead) -> Option<i128>
     units(place, head).checked_mul(place.scale as i128)
 }
 
-// The time of a frame, where it is in range.
+/// The time in nanoseconds of a block's frame, counted from 0, where it lies within plus or minus
+/// 2^62: the block's relative time is added to that of its Cluster, and a DefaultDuration for each
+/// frame before it (RFC 9559, section 11.2).
 #[tactic(auto, using(crate::proofs::FarTimes::too_far))]
-pub(crate) fn frame_time(place: &Place, head: BlockHead, lane: u16) -> Option<i64>
+pub fn frame_time(place: &Place, head: BlockHead, lane: u16) -> Option<i64>
     ensures { result ≡ time_of place.now head.relative lane }
 {
     let offset = offset(place.duration, lane);

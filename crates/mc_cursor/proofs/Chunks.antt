@@ -39,11 +39,11 @@ part_step : (plan : Plan) (place : ℕ) (level : Level)
 unfolding part
 part_step plan place level = let k : steps plan ≡ suc (length plan.octets) = omega arith in rw k refl
 
-part_ends : (plan : Plan) (place : ℕ) (level : Level) (ending : Ending) → End ending ≡ step_at plan place level
+pub part_ends : (plan : Plan) (place : ℕ) (level : Level) (ending : Ending) → End ending ≡ step_at plan place level
     → part (steps plan) plan place level ≡ record { to = mark place level; packets = []; ending = Some ending }
 part_ends plan place level ending step = part_step plan place level ∙ rw (← step) refl
 
-part_gives : (plan : Plan) (place to : ℕ) (level inner : Level) (packets : List Packet) → On to inner (Some packets) ≡ step_at plan place level
+pub part_gives : (plan : Plan) (place to : ℕ) (level inner : Level) (packets : List Packet) → On to inner (Some packets) ≡ step_at plan place level
     → part (steps plan) plan place level ≡ record { to = mark to inner; packets = packets; ending = None }
 part_gives plan place to level inner packets step = part_step plan place level ∙ rw (← step) refl
 
@@ -79,18 +79,6 @@ so_far_goes_on octets cursor place to level inner before now after so_far step r
       same = sym (part_goes_on (plan_for octets cursor) place to level inner step so_far.within) ∙ so_far.same;
       near = omega (arith, so_far.near, asked, rises.0);
     }
-
-pub so_far_ends : (octets : List ℕ) (cursor : Cursor) (place : ℕ) (level : Level) (ending : Ending) (before now : ℕ) → SoFar octets cursor place level before now
-    → End ending ≡ step_at (plan_for octets cursor) place level
-    → record { from = cursor.mark; to = mark place level; packets = []; ending = Some ending } ≡ chunk_at (plan_for octets cursor) cursor.mark
-so_far_ends octets cursor place level ending before now so_far step =
-    ap (chunk_of cursor.mark) (sym (part_ends (plan_for octets cursor) place level ending step) ∙ so_far.same)
-
-pub so_far_gives : (octets : List ℕ) (cursor : Cursor) (place to : ℕ) (level inner : Level) (packets : List Packet) (before now : ℕ) → SoFar octets cursor place level before now
-    → On to inner (Some packets) ≡ step_at (plan_for octets cursor) place level
-    → record { from = cursor.mark; to = mark to inner; packets = packets; ending = None } ≡ chunk_at (plan_for octets cursor) cursor.mark
-so_far_gives octets cursor place to level inner packets before now so_far step =
-    ap (chunk_of cursor.mark) (sym (part_gives (plan_for octets cursor) place to level inner packets step) ∙ so_far.same)
 
 reach_by : (octets : List ℕ) (cursor : Cursor) (place : ℕ) (level : Level) (before now after : ℕ) → SoFar octets cursor place level before now
     → (step : Step) → step ≡ step_at (plan_for octets cursor) place level → ReadsUpTo step now after → ReadsPart (part_at (plan_for octets cursor) cursor.mark) before after

@@ -11,17 +11,11 @@ use Rattle.mc_ebml.specs.declared.read.Coded.{Coded}
 use Rattle.mc_ebml.specs.declared.read.EbmlError.{EbmlError}
 use Rattle.mc_ebml.specs.declared.read.EbmlError.TheVariants.{Short, BadId, BadSize}
 use Rattle.mc_ebml.specs.Element.{width, id_from, coded_from, size_of, id_at, coded_at, size_at, head_at, ◌>>=◌}
+use Rattle.mc_walk.proofs.Glancing.{enough, coded_window}
 use Rattle.mc_cursor.specs.Reads.{moved_by}
-
--- whether octets are wanting is seen in a window of them that is wide enough
-enough : (m w : ℕ) (r : List ℕ) → w ≤ m → nat_lt (length (take m r)) w ≡ nat_lt (length r) w
-enough m w r h = grind (arith, nat_tests, length-take m r)
 
 width_id : (b : ℕ) → nat_lt b 16 ≡ false → width b ≤ 4
 width_id b h = grind (arith, nat_tests)
-
-width_all : (b : ℕ) → width b ≤ 8
-width_all b = grind (arith, nat_tests)
 
 abbrev pub shifted : ℕ → Result (ℕ × ℕ) EbmlError → Result (ℕ × ℕ) EbmlError
 shifted at (Ok x) = Ok (x.0, at + x.1)
@@ -44,24 +38,6 @@ id_window : (at m : ℕ) (r : List ℕ) → 4 ≤ m → id_from at r ≡ shifted
 id_window at zero r le = absurd (omega arith)
 id_window at (suc m) [] le = refl
 id_window at (suc m) (b ∷ bs) le = id_first at m b bs (nat_lt b 16) refl le
-
--- ---- the size
-
-coded_room : (m b : ℕ) (bs : List ℕ) (c : Bool) → nat_lt (length (b ∷ bs)) (width b) ≡ c → b == 0 ≡ false → 8 ≤ suc m
-    → coded_from (b ∷ bs) ≡ coded_from (take (suc m) (b ∷ bs))
-coded_room m b bs true h f le =
-    rw (f, enough (suc m) (width b) (b ∷ bs) (omega (arith, width_all b)), h) refl
-coded_room m b bs false h f le =
-    rw (f, enough (suc m) (width b) (b ∷ bs) (omega (arith, width_all b)), h, big_from-take 0 (width b) (suc m) (b ∷ bs) (omega (arith, width_all b))) refl
-
-coded_first : (m b : ℕ) (bs : List ℕ) (c : Bool) → b == 0 ≡ c → 8 ≤ suc m → coded_from (b ∷ bs) ≡ coded_from (take (suc m) (b ∷ bs))
-coded_first m b bs true h le = rw h refl
-coded_first m b bs false h le = coded_room m b bs (nat_lt (length (b ∷ bs)) (width b)) refl h le
-
-coded_window : (m : ℕ) (r : List ℕ) → 8 ≤ m → coded_from r ≡ coded_from (take m r)
-coded_window zero r le = absurd (omega arith)
-coded_window (suc m) [] le = refl
-coded_window (suc m) (b ∷ bs) le = coded_first m b bs (b == 0) refl le
 
 -- ---- the head
 

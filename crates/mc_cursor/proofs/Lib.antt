@@ -1,10 +1,12 @@
 pub mod Heads
 pub mod Windows
 pub mod Long
+pub mod Blocks
 pub mod Turning
 pub mod Stepping
 pub mod Chunks
 pub mod Standing
+pub mod Reaching
 pub mod Fronts
 pub mod Finding
 pub mod Beginning

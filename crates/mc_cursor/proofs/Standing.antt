@@ -8,8 +8,9 @@ use Rattle.mc_tracks.specs.declared.refused.Refused.{Refused}
 use Rattle.mc_walk.specs.declared.plan.Plan.{Plan}
 use Rattle.mc_walk.specs.Walk.{steps}
 use Rattle.mc_walk.specs.Opening.{opened_film}
-use Rattle.mc_walk.specs.Parts.{part_at, chunk_at, place_of, level_of, IsMark, at_opening, at_end}
+use Rattle.mc_walk.specs.Parts.{part_at, chunk_at, place_of, level_of, IsMark}
 use Rattle.mc_walk.proofs.Enough.{part-to}
+use Rattle.mc_walk.proofs.Joining.{mark-lies}
 use Rattle.mc_walk.proofs.Opened.{opened-lies}
 use Rattle.mc_cursor.specs.declared.cursor.Cursor.{Cursor}
 use Rattle.mc_cursor.specs.Standing.{plan_for, at_mark, StandsFor}
@@ -22,10 +23,6 @@ part_within : (plan : Plan) (m : Mark) → plan.opening ≤ length plan.octets �
 part_within plan m opening within =
     let onward = part-to (steps plan) plan (place_of plan m) (level_of m) within in
     place_within plan (part_at plan m).to opening onward.1
-
-mark_within : (plan : Plan) (m : Mark) → plan.opening ≤ length plan.octets → IsMark plan m → place_of plan m ≤ length plan.octets
-mark_within plan _ opening at_opening = opening
-mark_within plan _ opening (at_end m is) = part_within plan m opening (mark_within plan m opening is)
 
 opening_within : (octets : List ℕ) (cursor : Cursor) → StandsFor octets cursor → cursor.opening ≤ length octets
 opening_within octets cursor stands =
@@ -43,5 +40,5 @@ stands_after octets cursor to stands is = record {
 pub stands_at_mark : (octets : List ℕ) (cursor : Cursor) (m : Mark) → StandsFor octets cursor → IsMark (plan_for octets cursor) m → StandsFor octets (at_mark cursor m)
 stands_at_mark octets cursor m stands is = record {
   opened = stands.opened;
-  within = mark_within (plan_for octets cursor) m (opening_within octets cursor stands) is;
+  within = mark-lies (plan_for octets cursor) m (opening_within octets cursor stands) is;
 }

@@ -2,4 +2,5 @@ pub mod Reads
 pub mod Causes
 pub mod Standing
 pub mod Steps
+pub mod Heads
 pub mod Begins

@@ -1,5 +1,7 @@
 -- One step of the walk on demand, and how far it may read.
-use Rattle.std.specs.Prelude.{◌≡◌, ℕ, ◌+◌, ◌-◌, ◌<◌, ◌≤◌, max, Bool, nat_lt, if◌then◌else◌, List, length, slice_range, Option, Result, Ok, Err, ⊤}
+use Rattle.std.specs.Prelude.{◌≡◌, ℕ, ◌+◌, ◌<◌, ◌≤◌, max, nat_lt, if◌then◌else◌, List, [], length, slice_range, Option, Some, None, Result, Ok, Err, ⊤}
+use Rattle.mc_packet.specs.declared.packet.Packet.{Packet}
+use Rattle.mc_packet.specs.declared.walk.Fault.{Fault}
 use Rattle.mc_packet.specs.declared.walk.Fault.TheVariants as faults
 use Rattle.mc_packet.specs.declared.walk.Ending.{Ending}
 use Rattle.mc_packet.specs.declared.walk.Ending.TheVariants.{Clean, Cut, Damaged}
@@ -15,9 +17,12 @@ use Rattle.mc_walk.specs.declared.movement.Role.{Role}
 use Rattle.mc_walk.specs.declared.movement.Role.TheVariants as roles
 use Rattle.mc_walk.specs.Blocks.{block_element_of}
 use Rattle.mc_walk.specs.Moves.{settle, last_of, move_of, StartsBehind}
-use Rattle.mc_walk.specs.Walk.{stands_at, moved, blocked, time_of}
+use Rattle.mc_walk.specs.Walk.{stands_at, moved, time_of}
 use Rattle.mc_cursor.specs.declared.reading.Found.{Found}
 use Rattle.mc_cursor.specs.declared.reading.Found.TheVariants as found
+use Rattle.mc_cursor.specs.declared.step.Unread.{Unread}
+use Rattle.mc_cursor.specs.declared.step.Reached.{Reached}
+use Rattle.mc_cursor.specs.declared.step.Reached.TheVariants as reached
 use Rattle.mc_cursor.specs.declared.step.Turn.{Turn}
 use Rattle.mc_cursor.specs.declared.step.Turn.TheVariants as turns
 
@@ -50,10 +55,25 @@ IsBlock roles.BlockGroup = ⊤
 IsBlock roles.Other = ⊥
 IsBlock roles.Timestamp = ⊥
 
--- a block element is cut where it runs past the film
-abbrev pub block_turn : Plan → ℕ → Role → ℕ → ℕ → Level → Step
-block_turn plan place role at stop level = if nat_lt (length plan.octets) stop then End (Cut place)
-    else blocked place stop level (block_element_of plan.tracks plan.scale place (time_of level) role (slice_range plan.octets at stop))
+-- a damaged block element ends the film
+abbrev pub or_damaged : ℕ → Result (List Packet) Fault → Result (List Packet) Ending
+or_damaged place (Ok packets) = Ok packets
+or_damaged place (Err fault) = Err (Damaged place fault)
+
+-- the packets of a block element, or how the film ends there: it is cut where the element runs past it
+abbrev pub taken_of : Plan → ℕ → Unread → Result (List Packet) Ending
+taken_of plan place b = if nat_lt (length plan.octets) b.stop then Err (Cut place)
+    else or_damaged place (block_element_of plan.tracks plan.scale place (time_of b.level) b.role (slice_range plan.octets b.at b.stop))
+
+abbrev pub taken_step : Unread → Result (List Packet) Ending → Step
+taken_step b (Ok packets) = On b.stop b.level (Some packets)
+taken_step b (Err ending) = End ending
+
+-- the step of the walk, where reading on demand comes to this
+abbrev pub step_to : Plan → ℕ → Reached → Step
+step_to plan place (reached.End ending) = End ending
+step_to plan place (reached.On to level) = On to level None
+step_to plan place (reached.Block b) = taken_step b (taken_of plan place b)
 
 -- what a move leads to stands behind a place
 abbrev pub LeadsOn : ℕ → Move → Type 0
@@ -65,10 +85,28 @@ abbrev pub TurnsOn : ℕ → Turn → Type 0
 TurnsOn place (turns.Ends ending) = ⊤
 TurnsOn place (turns.Moves movement) = LeadsOn place movement
 
--- a step that goes on goes behind a place
-abbrev pub GoesOn : ℕ → Step → Type 0
-GoesOn place (End ending) = ⊤
-GoesOn place (On to level block) = place < to
+-- an element that is passed over, by the level behind it or the ending at its place
+abbrev pub passed_step : ℕ → Result Level Ending → Step
+passed_step stop (Ok level) = On stop level None
+passed_step stop (Err ending) = End ending
+
+-- what is reached stands behind a place
+abbrev pub GoesOn : ℕ → Reached → Type 0
+GoesOn place (reached.End ending) = ⊤
+GoesOn place (reached.On to level) = place < to
+GoesOn place (reached.Block b) = (place < b.at) × (b.at ≤ b.stop) × IsBlock b.role
+
+-- the body of a block element begins within so many octets
+abbrev pub BeginsIn : ℕ → Reached → Type 0
+BeginsIn len (reached.End ending) = ⊤
+BeginsIn len (reached.On to level) = ⊤
+BeginsIn len (reached.Block b) = b.at ≤ len
+
+-- of a block element only the head was read
+abbrev pub IsUnread : Reached → Type 0
+IsUnread (reached.End ending) = ⊥
+IsUnread (reached.On to level) = ⊥
+IsUnread (reached.Block b) = ⊤
 
 -- it stands within so many octets
 abbrev pub TurnStarts : ℕ → ℕ → Turn → Type 0

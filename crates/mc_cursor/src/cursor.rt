@@ -1,14 +1,20 @@
-ghost use Rattle.std.specs.Prelude.{◌≡◌, ◌<◌, ◌≤◌, max, ℕ, List, length, Some, IfOk, OnErr};
+ghost use Rattle.std.specs.Prelude.{◌≡◌, ◌+◌, ◌<◌, ◌≤◌, max, ℕ, List, [], length, Some, None, IfOk, OnErr};
+ghost use Rattle.std.proofs.Props.{props};
 ghost use Rattle.mc_outside.specs.Shelf.{content};
-ghost use Rattle.mc_walk.specs.Parts.{level_of, part_at, chunk_at, IsMark};
+ghost use Rattle.mc_packet.specs.Shape.{AreBetween, HasShape};
+ghost use Rattle.mc_tracks.specs.TrackList.{IsTrackList};
+ghost use Rattle.mc_walk.specs.Parts.{level_of, part_at, chunk_of, chunk_at, IsMark};
 ghost use Rattle.mc_cursor.specs.Causes.{ReadCause, Keeps};
 ghost use Rattle.mc_cursor.specs.Reads.{Told};
 
 use crate::error::CursorError;
+use crate::head::HeadChunk;
+use crate::next::Next;
+use crate::step::Unread;
 use mc_outside::{FileNo, Shelf};
 use mc_packet::{Chunk, Ending, Level, Mark, Packets};
 use mc_tracks::TrackList;
-use mc_walk::Step;
+use mc_walk::BlockMark;
 use std::alloc::Global;
 
 /// A place in a film, from which it is read on as it is asked for. It knows the film's header, and
@@ -27,14 +33,18 @@ pub struct Cursor {
     pub(crate) mark: Mark,
     ghost positive: { 0 < scale },
     ghost behind: { 0 < opening },
+    ghost listed: { IsTrackList tracks } by { Prim.hlevel props },
 }
 
 impl Cursor {
+    ghost use Rattle.mc_cursor.specs.Heads.{head_chunk_of, part_by, head_by};
     ghost use Rattle.mc_cursor.specs.Standing.{plan_for, StandsFor, start_of, tracks_of, scale_of, mark_of, file_of, at_mark, ReadsPart};
 
-    /// The film's tracks.
+    /// The film's tracks: at most 64, whose numbers differ and are not 0, with texts of at most
+    /// 65,536 octets without a zero octet, whatever the shelf gives.
     pub fn tracks(&self) -> &TrackList
-        ensures { result.now ≡ tracks_of self.now }
+        ensures value { result.now ≡ tracks_of self.now }
+        ensures shape { IsTrackList result.now }
     {
         &self.tracks
     }
@@ -53,6 +63,7 @@ impl Cursor {
     {
         self.mark
     }
+
     /// Stands at another mark. The cursor stands for the same films as before, where the mark is one
     /// of theirs; else nothing is known of what it reads, but that its calls end.
     pub fn goto(&mut self, mark: Mark)
@@ -67,10 +78,13 @@ impl Cursor {
     /// cursor then stands at the chunk's end.
     ///
     /// `ReadFault` comes only where the shelf's count of faults rose in this call, or stands at
-    /// its last value. After an error the cursor stands where it stood.
+    /// its last value. After an error the cursor stands where it stood. Whatever the shelf gives, a
+    /// chunk has its shape: at most 256 packets of one track, in order and between its marks, with
+    /// payloads of at most 67,108,864 octets together.
     pub fn next_chunk<S: Shelf>(&mut self, shelf: &mut S) -> Result<Chunk, CursorError>
         ensures value { IfOk result (λ k. Told (content (S.files shelf.old) (S.opened shelf.old) (file_of self.old)) (λ octets. StandsFor octets self.old → (k ≡ chunk_at (plan_for octets self.old) (mark_of self.old)) × StandsFor octets self.new)) }
         ensures moves { IfOk result (λ k. (k.from ≡ mark_of self.old) × (self.new ≡ at_mark self.old k.to)) }
+        ensures shape { IfOk result HasShape }
         ensures err { OnErr result (self.new ≡ self.old) }
         ensures cause { ReadCause (S.faults shelf.old) (S.faults shelf.new) result }
         ensures kept { Keeps (S.files shelf.old) (S.files shelf.new) (S.opened shelf.old) (S.opened shelf.new) (S.reach shelf.old) (S.reach shelf.new) }
@@ -81,9 +95,26 @@ impl Cursor {
         Ok(chunk)
     }
 
-    // The place from which it reads on.
-    fn start(&self) -> u64
+    /// Reads on as `next_chunk` does, and moves alike, but reads no payload: of a SimpleBlock without
+    /// a lace at most the first 12 octets of the body, and the last, to learn that the film reaches
+    /// so far. A lace and a BlockGroup are read whole.
+    pub fn next_head<S: Shelf>(&mut self, shelf: &mut S) -> Result<HeadChunk, CursorError>
+        ensures value { IfOk result (λ k. Told (content (S.files shelf.old) (S.opened shelf.old) (file_of self.old)) (λ octets. StandsFor octets self.old → (k ≡ head_chunk_of (chunk_at (plan_for octets self.old) (mark_of self.old))) × StandsFor octets self.new)) }
+        ensures moves { IfOk result (λ k. (k.from ≡ mark_of self.old) × (self.new ≡ at_mark self.old k.to)) }
+        ensures err { OnErr result (self.new ≡ self.old) }
+        ensures cause { ReadCause (S.faults shelf.old) (S.faults shelf.new) result }
+        ensures kept { Keeps (S.files shelf.old) (S.files shelf.new) (S.opened shelf.old) (S.opened shelf.new) (S.reach shelf.old) (S.reach shelf.new) }
+        ensures reach { Told (content (S.files shelf.old) (S.opened shelf.old) (file_of self.old)) (λ octets. StandsFor octets self.old → ReadsPart (part_at (plan_for octets self.old) (mark_of self.old)) (S.reach shelf.old) (S.reach shelf.new)) }
+    {
+        let head = self.read_head_chunk(shelf)?;
+        self.mark = head.to;
+        Ok(head)
+    }
+
+    /// The place from which it reads on.
+    pub(crate) fn start(&self) -> u64
         ensures value { result ≡ start_of self.now }
+        ensures onward { self.now.mark.pos ≤ result }
         ensures positive { 0 < result }
     {
         if self.mark.pos == 0 {
@@ -93,7 +124,7 @@ impl Cursor {
         }
     }
 
-    fn start_level(&self) -> Level
+    pub(crate) fn start_level(&self) -> Level
         ensures { result ≡ level_of self.now.mark }
     {
         if self.mark.pos == 0 {
@@ -107,41 +138,106 @@ impl Cursor {
     fn read_chunk<S: Shelf>(&self, shelf: &mut S) -> Result<Chunk, CursorError>
         ensures value { IfOk result (λ k. Told (content (S.files shelf.old) (S.opened shelf.old) self.now.file.0) (λ octets. StandsFor octets self.now → k ≡ chunk_at (plan_for octets self.now) self.now.mark)) }
         ensures bounds { IfOk result (λ k. (k.from ≡ self.now.mark) × (0 < k.to.pos)) }
+        ensures shape { IfOk result HasShape }
         ensures cause { ReadCause (S.faults shelf.old) (S.faults shelf.new) result }
         ensures kept { Keeps (S.files shelf.old) (S.files shelf.new) (S.opened shelf.old) (S.opened shelf.new) (S.reach shelf.old) (S.reach shelf.new) }
         ensures reach { Told (content (S.files shelf.old) (S.opened shelf.old) self.now.file.0) (λ octets. StandsFor octets self.now → ReadsPart (part_at (plan_for octets self.now) self.now.mark) (S.reach shelf.old) (S.reach shelf.new)) }
     {
-        let mut place = self.start();
-        let mut level = self.start_level();
-        loop {
-            match self.step(shelf, place, level)? {
-                Step::End(ending) => {
-                    let none = Packets::new(self.alloc);
-                    return Ok(self.chunk_to(place, level, none, Some(ending)));
-                }
-                Step::On {
-                    to,
-                    level: inner,
-                    block,
-                } => {
-                    if let Some(packets) = block {
-                        return Ok(self.chunk_to(to, inner, packets, None));
-                    }
-                    place = to;
-                    level = inner;
-                }
+        let (at, next) = self.find_next(shelf)?;
+        match next {
+            Next::End(ending) => Ok(self.last_chunk(at, ending)),
+            Next::Block(block) => {
+                let taken = self.read_block(shelf, at.pos, block)?;
+                Ok(self.chunk_by(at, block, taken))
             }
         }
     }
 
-    fn chunk_to(&self, pos: u64, level: Level, packets: Packets, ending: Option<Ending>) -> Chunk
-        ensures { result ≡ record { from = self.now.mark; to = record { pos = pos; level = level }; packets = packets; ending = ending } }
+    // The same without its payloads.
+    fn read_head_chunk<S: Shelf>(&self, shelf: &mut S) -> Result<HeadChunk, CursorError>
+        ensures value { IfOk result (λ k. Told (content (S.files shelf.old) (S.opened shelf.old) self.now.file.0) (λ octets. StandsFor octets self.now → k ≡ head_chunk_of (chunk_at (plan_for octets self.now) self.now.mark))) }
+        ensures bounds { IfOk result (λ k. (k.from ≡ self.now.mark) × (0 < k.to.pos)) }
+        ensures cause { ReadCause (S.faults shelf.old) (S.faults shelf.new) result }
+        ensures kept { Keeps (S.files shelf.old) (S.files shelf.new) (S.opened shelf.old) (S.opened shelf.new) (S.reach shelf.old) (S.reach shelf.new) }
+        ensures reach { Told (content (S.files shelf.old) (S.opened shelf.old) self.now.file.0) (λ octets. StandsFor octets self.now → ReadsPart (part_at (plan_for octets self.now) self.now.mark) (S.reach shelf.old) (S.reach shelf.new)) }
+    {
+        let (at, next) = self.find_next(shelf)?;
+        match next {
+            Next::End(ending) => Ok(self.last_head(at, ending)),
+            Next::Block(block) => {
+                let taken = self.read_mark(shelf, at.pos, block)?;
+                Ok(self.head_by(at, block, taken))
+            }
+        }
+    }
+
+    // The chunk that ends at the film's ending.
+    fn last_chunk(&self, at: Mark, ending: Ending) -> Chunk
+        ensures value { result ≡ record { from = self.now.mark; to = at; packets = []; ending = Some ending } }
+        ensures shape { HasShape result }
     {
         Chunk {
             from: self.mark,
-            to: Mark { pos, level },
-            packets,
-            ending,
+            to: at,
+            packets: Packets::new(self.alloc),
+            ending: Some(ending),
+        }
+    }
+
+    // The chunk that ends with the block element at a mark.
+    fn chunk_by(&self, at: Mark, block: Unread, taken: Result<Packets, Ending>) -> Chunk
+        requires order { (self.now.mark.pos ≤ at.pos) × (at.pos < block.stop) × (0 < at.pos) }
+        requires law { IfOk taken (AreBetween at.pos (at.pos + 1)) }
+        ensures value { result ≡ chunk_of self.now.mark (part_by at block taken) }
+        ensures bounds { (result.from ≡ self.now.mark) × (0 < result.to.pos) }
+        ensures shape { HasShape result }
+    {
+        match taken {
+            Ok(packets) => Chunk {
+                from: self.mark,
+                to: Mark {
+                    pos: block.stop,
+                    level: block.level,
+                },
+                packets,
+                ending: None,
+            },
+            Err(ending) => self.last_chunk(at, ending),
+        }
+    }
+
+    fn last_head(&self, at: Mark, ending: Ending) -> HeadChunk
+        ensures { result ≡ record { from = self.now.mark; to = at; block = None; ending = Some ending } }
+    {
+        HeadChunk {
+            from: self.mark,
+            to: at,
+            block: None,
+            ending: Some(ending),
+        }
+    }
+
+    fn head_by(
+        &self,
+        at: Mark,
+        block: Unread,
+        taken: Result<Option<BlockMark>, Ending>,
+    ) -> HeadChunk
+        requires { (at.pos < block.stop) × (0 < at.pos) }
+        ensures value { result ≡ head_by self.now.mark at block taken }
+        ensures bounds { (result.from ≡ self.now.mark) × (0 < result.to.pos) }
+    {
+        match taken {
+            Ok(first) => HeadChunk {
+                from: self.mark,
+                to: Mark {
+                    pos: block.stop,
+                    level: block.level,
+                },
+                block: first,
+                ending: None,
+            },
+            Err(ending) => self.last_head(at, ending),
         }
     }
 }

@@ -7,11 +7,16 @@
 //! a body with its own span, and of what it passes over the last octet.
 #![tactic(auto)]
 
+mod block;
 mod cursor;
 mod error;
+mod head;
+mod next;
 mod opening;
 mod reading;
 mod step;
 
 pub use cursor::Cursor;
 pub use error::{CursorError, OpenError};
+pub use head::HeadChunk;
+pub use mc_walk::BlockMark;

@@ -5,6 +5,7 @@ ghost use Rattle.mc_outside.specs.Shelf.{content};
 ghost use Rattle.mc_tracks.specs.Children.{element_at, whole_element};
 ghost use Rattle.mc_cursor.specs.declared.reading.Found.TheVariants as found;
 ghost use Rattle.mc_tracks.specs.Header.{ebml_header_of, info_of, tracks_of};
+ghost use Rattle.mc_tracks.specs.TrackList.{IsTrackList};
 ghost use Rattle.mc_walk.specs.Opening.{end_by, segment_of, before_cluster, segment_child, first_child, info_in, tracks_in, info_then_tracks, tracks_then_info, header_by, header_of};
 ghost use Rattle.mc_walk.specs.Parts.{opening_mark};
 ghost use Rattle.mc_walk.specs.Walk.{stands_at};
@@ -243,6 +244,7 @@ fn info_from(body: &[u8], at: u64) -> Result<u64, OpenError>
 fn tracks_from(alloc: Global, body: &[u8], at: u64) -> Result<TrackList, OpenError>
     requires { at + length body.now < 2 ^ 64 }
     ensures value { Gives result (tracks_of body.now at) }
+    ensures listed { IfOk result IsTrackList }
     ensures pure { ¬ IsErrOf result OpenError.ReadFault }
 {
     Ok(parse_tracks(alloc, body, at)?)
@@ -278,6 +280,7 @@ fn read_tracks<S: Shelf>(
 ) -> Result<TrackList, OpenError>
     requires { child.at ≤ child.stop }
     ensures value { Told (content (S.files shelf.old) (S.opened shelf.old) file.0) (λ octets. child.stop ≤ length octets → Gives result (tracks_in octets child)) }
+    ensures listed { IfOk result IsTrackList }
     ensures cause { BeginCause (S.faults shelf.old) (S.faults shelf.new) result }
     ensures kept { Keeps (S.files shelf.old) (S.files shelf.new) (S.opened shelf.old) (S.opened shelf.new) (S.reach shelf.old) (S.reach shelf.new) }
 {
@@ -303,6 +306,7 @@ fn read_info_first<S: Shelf>(
     requires tracks { tracks.at ≤ tracks.stop }
     ensures value { Told (content (S.files shelf.old) (S.opened shelf.old) file.0) (λ octets. info.stop ≤ length octets → tracks.stop ≤ length octets → Gives result (info_then_tracks octets info tracks)) }
     ensures positive { IfOk result (λ h. 0 < h.scale) }
+    ensures listed { IfOk result (λ h. IsTrackList h.tracks) }
     ensures cause { BeginCause (S.faults shelf.old) (S.faults shelf.new) result }
     ensures kept { Keeps (S.files shelf.old) (S.files shelf.new) (S.opened shelf.old) (S.opened shelf.new) (S.reach shelf.old) (S.reach shelf.new) }
 {
@@ -323,6 +327,7 @@ fn read_tracks_first<S: Shelf>(
     requires tracks { tracks.at ≤ tracks.stop }
     ensures value { Told (content (S.files shelf.old) (S.opened shelf.old) file.0) (λ octets. info.stop ≤ length octets → tracks.stop ≤ length octets → Gives result (tracks_then_info octets info tracks)) }
     ensures positive { IfOk result (λ h. 0 < h.scale) }
+    ensures listed { IfOk result (λ h. IsTrackList h.tracks) }
     ensures cause { BeginCause (S.faults shelf.old) (S.faults shelf.new) result }
     ensures kept { Keeps (S.files shelf.old) (S.files shelf.new) (S.opened shelf.old) (S.opened shelf.new) (S.reach shelf.old) (S.reach shelf.new) }
 {
@@ -343,6 +348,7 @@ fn read_found_header<S: Shelf>(
     requires tracks { IfSome tracks (λ c. c.at ≤ c.stop) }
     ensures value { Told (content (S.files shelf.old) (S.opened shelf.old) file.0) (λ octets. IfSome info (λ c. c.stop ≤ length octets) → IfSome tracks (λ c. c.stop ≤ length octets) → Gives result (header_by octets info tracks)) }
     ensures positive { IfOk result (λ h. 0 < h.scale) }
+    ensures listed { IfOk result (λ h. IsTrackList h.tracks) }
     ensures cause { BeginCause (S.faults shelf.old) (S.faults shelf.new) result }
     ensures kept { Keeps (S.files shelf.old) (S.files shelf.new) (S.opened shelf.old) (S.opened shelf.new) (S.reach shelf.old) (S.reach shelf.new) }
 {
@@ -377,6 +383,7 @@ pub(crate) fn read_header<S: Shelf>(
 ) -> Result<Header, OpenError>
     ensures value { Told (content (S.files shelf.old) (S.opened shelf.old) file.0) (λ octets. segment.opening ≤ length octets → Gives result (header_of octets segment)) }
     ensures positive { IfOk result (λ h. 0 < h.scale) }
+    ensures listed { IfOk result (λ h. IsTrackList h.tracks) }
     ensures cause { BeginCause (S.faults shelf.old) (S.faults shelf.new) result }
     ensures kept { Keeps (S.files shelf.old) (S.files shelf.new) (S.opened shelf.old) (S.opened shelf.new) (S.reach shelf.old) (S.reach shelf.new) }
 {

@@ -1,27 +1,42 @@
-ghost use Rattle.std.specs.Prelude.{◌≡◌, ◌+◌, ◌-◌, ◌^◌, ◌<◌, ◌≤◌, max, length, Option, IfOk};
+ghost use Rattle.std.specs.Prelude.{◌≡◌, ℕ, ◌+◌, ◌-◌, ◌^◌, ◌<◌, ◌≤◌, max, length, Option, IfOk};
 ghost use Rattle.mc_ebml.specs.Element.{uint_of};
 ghost use Rattle.mc_outside.specs.Shelf.{KeepsRead, content};
 ghost use Rattle.mc_walk.specs.declared.movement.Move.TheVariants as moves;
-ghost use Rattle.mc_walk.specs.Blocks.{block_element_of};
+ghost use Rattle.mc_walk.specs.declared.plan.Plan.{Plan};
 ghost use Rattle.mc_walk.specs.Moves.{StartsBehind};
-ghost use Rattle.mc_walk.specs.Walk.{stamped, blocked, time_of, moved, step_at};
+ghost use Rattle.mc_walk.specs.Walk.{stamped, time_of, moved, step_at};
 ghost use Rattle.mc_cursor.specs.Causes.{ReadCause, Keeps};
 ghost use Rattle.mc_cursor.specs.Reads.{Told, found_at, Lies};
 ghost use Rattle.mc_cursor.specs.Standing.{plan_for};
-ghost use Rattle.mc_cursor.specs.Steps.{bad_ending, turn_of, turned, LeadsOn, TurnsOn, GoesOn, IsBlock, block_turn, TurnStarts, asked_for, ReadsUpTo};
+ghost use Rattle.mc_cursor.specs.Steps.{bad_ending, turn_of, turned, LeadsOn, TurnsOn, passed_step, step_to, GoesOn, BeginsIn, IsUnread, TurnStarts, asked_for, ReadsUpTo};
 
 use crate::cursor::Cursor;
 use crate::error::CursorError;
 use crate::reading::{Found, read_ends_before, read_found, read_part};
-use bytes::Bytes;
 use mc_ebml::{EbmlError, read_uint};
 use mc_outside::Shelf;
-use mc_packet::{Ending, Fault, Level, NoMemory};
-use mc_walk::{Move, Role, Step, WalkError, block_element, last_ending, move_at, settled};
-use std::alloc::AllocError;
+use mc_packet::{Ending, Fault, Level};
+use mc_walk::{Move, Role, last_ending, move_at, settled};
 
-// A block of more octets is not read.
-const LARGEST: u64 = 67_108_864;
+/// A block element whose body, which stands from `at` up to `stop`, is not read yet.
+#[derive(Clone, Copy, Debug, PartialEq, Eq)]
+pub(crate) struct Unread {
+    pub(crate) role: Role,
+    pub(crate) at: u64,
+    pub(crate) stop: u64,
+    pub(crate) level: Level,
+}
+
+/// What one step on demand comes to.
+#[derive(Clone, Copy, Debug, PartialEq, Eq)]
+pub(crate) enum Reached {
+    /// The film ends here.
+    End(Ending),
+    /// The walk goes on at another place.
+    On { to: u64, level: Level },
+    /// A block element stands here.
+    Block(Unread),
+}
 
 /// What the walk does at a place, before anything behind the head there is read.
 #[derive(Clone, Copy, Debug, PartialEq, Eq)]
@@ -59,31 +74,23 @@ fn next_turn(segment_end: Option<u64>, place: u64, level: Level, found: Found) -
 }
 
 // A Timestamp sets the Cluster's time.
-fn stamp(place: u64, stop: u64, level: Level, time: Result<u64, EbmlError>) -> Step
-    ensures value { result ≡ stamped place stop level time }
-    ensures onward { place < stop → GoesOn place result }
+fn stamp(place: u64, level: Level, time: Result<u64, EbmlError>) -> Result<Level, Ending>
+    ensures { (stop : ℕ) → passed_step stop result ≡ stamped place stop level time }
 {
     let Level::Cluster { end, .. } = level else {
-        return Step::On {
-            to: stop,
-            level,
-            block: None,
-        };
+        return Ok(level);
     };
     match time {
-        Ok(time) => Step::On {
-            to: stop,
-            level: Level::Cluster {
-                time: Some(time),
-                end,
-            },
-            block: None,
-        },
-        Err(_) => Step::End(Ending::Damaged(place, Fault::BadUint)),
+        Ok(time) => Ok(Level::Cluster {
+            time: Some(time),
+            end,
+        }),
+        Err(_) => Err(Ending::Damaged(place, Fault::BadUint)),
     }
 }
 
-fn cluster_time(level: Level) -> Option<u64>
+/// The time of the Cluster in which a place stands.
+pub(crate) fn cluster_time(level: Level) -> Option<u64>
     ensures { result ≡ time_of level }
 {
     match level {
@@ -92,8 +99,21 @@ fn cluster_time(level: Level) -> Option<u64>
     }
 }
 
+// What is reached behind an element that is passed over, and ends at `stop`.
+fn behind(stop: u64, passed: Result<Level, Ending>) -> Reached
+    ensures value { (plan : Plan) (place : ℕ) → step_to plan place result ≡ passed_step stop passed }
+    ensures onward { (place : ℕ) → place < stop → GoesOn place result }
+    ensures begins { (len : ℕ) → BeginsIn len result }
+    ensures passed { ¬ IsUnread result }
+{
+    match passed {
+        Ok(level) => Reached::On { to: stop, level },
+        Err(ending) => Reached::End(ending),
+    }
+}
+
 impl Cursor {
-    // An element that is passed over.
+    // An element that is passed over, and the level behind it; or how the film ends there.
     fn pass_other<S: Shelf>(
         &self,
         shelf: &mut S,
@@ -101,21 +121,16 @@ impl Cursor {
         at: u64,
         stop: u64,
         level: Level,
-    ) -> Result<Step, CursorError>
-        requires { (place < at) × (at ≤ stop) }
-        ensures value { IfOk result (λ s. Told (content (S.files shelf.old) (S.opened shelf.old) self.now.file.0) (λ octets. at ≤ length octets → s ≡ moved (plan_for octets self.now) place (moves.Pass Role.Other at stop level))) }
-        ensures onward { IfOk result (GoesOn place) }
+    ) -> Result<Result<Level, Ending>, CursorError>
+        requires { at ≤ stop }
+        ensures value { IfOk result (λ r. Told (content (S.files shelf.old) (S.opened shelf.old) self.now.file.0) (λ octets. at ≤ length octets → passed_step stop r ≡ moved (plan_for octets self.now) place (moves.Pass Role.Other at stop level))) }
         ensures cause { ReadCause (S.faults shelf.old) (S.faults shelf.new) result }
         ensures kept { KeepsRead (S.files shelf.old) (S.files shelf.new) (S.opened shelf.old) (S.opened shelf.new) (S.reach shelf.old) (S.reach shelf.new) stop }
     {
         if read_ends_before(shelf, self.file, at, stop)? {
-            return Ok(Step::End(Ending::Cut(place)));
+            return Ok(Err(Ending::Cut(place)));
         }
-        Ok(Step::On {
-            to: stop,
-            level,
-            block: None,
-        })
+        Ok(Ok(level))
     }
 
     // A Timestamp of at most 8 octets.
@@ -126,16 +141,15 @@ impl Cursor {
         at: u64,
         stop: u64,
         level: Level,
-    ) -> Result<Step, CursorError>
-        requires { (place < at) × (at ≤ stop) }
-        ensures value { IfOk result (λ s. Told (content (S.files shelf.old) (S.opened shelf.old) self.now.file.0) (λ octets. at ≤ length octets → s ≡ moved (plan_for octets self.now) place (moves.Pass Role.Timestamp at stop level))) }
-        ensures onward { IfOk result (GoesOn place) }
+    ) -> Result<Result<Level, Ending>, CursorError>
+        requires { at ≤ stop }
+        ensures value { IfOk result (λ r. Told (content (S.files shelf.old) (S.opened shelf.old) self.now.file.0) (λ octets. at ≤ length octets → passed_step stop r ≡ moved (plan_for octets self.now) place (moves.Pass Role.Timestamp at stop level))) }
         ensures cause { ReadCause (S.faults shelf.old) (S.faults shelf.new) result }
         ensures kept { KeepsRead (S.files shelf.old) (S.files shelf.new) (S.opened shelf.old) (S.opened shelf.new) (S.reach shelf.old) (S.reach shelf.new) stop }
     {
         match read_part(self.alloc, shelf, self.file, at, stop)? {
-            Some(body) => Ok(stamp(place, stop, level, read_uint(body.as_slice()))),
-            None => Ok(Step::End(Ending::Cut(place))),
+            Some(body) => Ok(stamp(place, level, read_uint(body.as_slice()))),
+            None => Ok(Err(Ending::Cut(place))),
         }
     }
 
@@ -148,97 +162,20 @@ impl Cursor {
         at: u64,
         stop: u64,
         level: Level,
-    ) -> Result<Step, CursorError>
-        requires { (place < at) × (at + 8 < stop) }
-        ensures value { IfOk result (λ s. Told (content (S.files shelf.old) (S.opened shelf.old) self.now.file.0) (λ octets. at ≤ length octets → s ≡ moved (plan_for octets self.now) place (moves.Pass Role.Timestamp at stop level))) }
-        ensures onward { IfOk result (GoesOn place) }
+    ) -> Result<Result<Level, Ending>, CursorError>
+        requires { at + 8 < stop }
+        ensures value { IfOk result (λ r. Told (content (S.files shelf.old) (S.opened shelf.old) self.now.file.0) (λ octets. at ≤ length octets → passed_step stop r ≡ moved (plan_for octets self.now) place (moves.Pass Role.Timestamp at stop level))) }
         ensures cause { ReadCause (S.faults shelf.old) (S.faults shelf.new) result }
         ensures kept { KeepsRead (S.files shelf.old) (S.files shelf.new) (S.opened shelf.old) (S.opened shelf.new) (S.reach shelf.old) (S.reach shelf.new) stop }
     {
         if read_ends_before(shelf, self.file, at, stop)? {
-            return Ok(Step::End(Ending::Cut(place)));
+            return Ok(Err(Ending::Cut(place)));
         }
-        Ok(stamp(place, stop, level, Err(EbmlError::BadUint)))
-    }
-    // A block element of a known track gives its packets.
-    fn take_block(
-        &self,
-        place: u64,
-        role: Role,
-        stop: u64,
-        level: Level,
-        body: &Bytes,
-    ) -> Result<Step, NoMemory>
-        ensures value { IfOk result (λ s. s ≡ blocked place stop level (block_element_of self.now.tracks self.now.scale place (time_of level) role body.now)) }
-        ensures onward { place < stop → IfOk result (GoesOn place) }
-    {
-        let time = cluster_time(level);
-        match block_element(
-            self.alloc,
-            &self.tracks,
-            self.scale,
-            place,
-            time,
-            role,
-            body,
-        ) {
-            Ok(packets) => Ok(Step::On {
-                to: stop,
-                level,
-                block: Some(packets),
-            }),
-            Err(WalkError::Fault(fault)) => Ok(Step::End(Ending::Damaged(place, fault))),
-            Err(WalkError::NoMemory) => Err(AllocError),
-        }
+        Ok(stamp(place, level, Err(EbmlError::BadUint)))
     }
 
-    // A block element that is not too large.
-    fn pass_block<S: Shelf>(
-        &self,
-        shelf: &mut S,
-        place: u64,
-        role: Role,
-        at: u64,
-        stop: u64,
-        level: Level,
-    ) -> Result<Step, CursorError>
-        requires { (place < at) × (at ≤ stop) }
-        ensures value { IfOk result (λ s. Told (content (S.files shelf.old) (S.opened shelf.old) self.now.file.0) (λ octets. at ≤ length octets → s ≡ block_turn (plan_for octets self.now) place role at stop level)) }
-        ensures onward { IfOk result (GoesOn place) }
-        ensures cause { ReadCause (S.faults shelf.old) (S.faults shelf.new) result }
-        ensures kept { KeepsRead (S.files shelf.old) (S.files shelf.new) (S.opened shelf.old) (S.opened shelf.new) (S.reach shelf.old) (S.reach shelf.new) stop }
-    {
-        match read_part(self.alloc, shelf, self.file, at, stop)? {
-            Some(body) => Ok(self.take_block(place, role, stop, level, &body)?),
-            None => Ok(Step::End(Ending::Cut(place))),
-        }
-    }
-
-    // A block element that is too large.
-    #[tactic(auto, using(crate::proofs::Long::long_block))]
-    fn pass_large_block<S: Shelf>(
-        &self,
-        shelf: &mut S,
-        place: u64,
-        role: Role,
-        at: u64,
-        stop: u64,
-        level: Level,
-    ) -> Result<Step, CursorError>
-        requires order { (place < at) × (at + 67108864 < stop) }
-        requires role { IsBlock role }
-        ensures value { IfOk result (λ s. Told (content (S.files shelf.old) (S.opened shelf.old) self.now.file.0) (λ octets. at ≤ length octets → s ≡ block_turn (plan_for octets self.now) place role at stop level)) }
-        ensures onward { IfOk result (GoesOn place) }
-        ensures cause { ReadCause (S.faults shelf.old) (S.faults shelf.new) result }
-        ensures kept { KeepsRead (S.files shelf.old) (S.files shelf.new) (S.opened shelf.old) (S.opened shelf.new) (S.reach shelf.old) (S.reach shelf.new) stop }
-    {
-        if read_ends_before(shelf, self.file, at, stop)? {
-            Ok(Step::End(Ending::Cut(place)))
-        } else {
-            Ok(Step::End(Ending::Damaged(place, Fault::TooLarge)))
-        }
-    }
-    // What an element's head asks for.
+    // What an element's head asks for; the body of a block element is left unread.
+    #[tactic(auto, using(crate::proofs::Blocks::unread_step))]
     fn pass<S: Shelf>(
         &self,
         shelf: &mut S,
@@ -247,38 +184,48 @@ impl Cursor {
         at: u64,
         stop: u64,
         level: Level,
-    ) -> Result<Step, CursorError>
+    ) -> Result<Reached, CursorError>
         requires { (place < at) × (at ≤ stop) }
-        ensures value { IfOk result (λ s. Told (content (S.files shelf.old) (S.opened shelf.old) self.now.file.0) (λ octets. at ≤ length octets → s ≡ moved (plan_for octets self.now) place (moves.Pass role at stop level))) }
+        ensures value { IfOk result (λ s. Told (content (S.files shelf.old) (S.opened shelf.old) self.now.file.0) (λ octets. at ≤ length octets → step_to (plan_for octets self.now) place s ≡ moved (plan_for octets self.now) place (moves.Pass role at stop level))) }
         ensures onward { IfOk result (GoesOn place) }
+        ensures begins { (len : ℕ) → at ≤ len → IfOk result (BeginsIn len) }
+        ensures unread { IfOk result (λ s. IsUnread s → S.reach shelf.new ≡ S.reach shelf.old) }
         ensures cause { ReadCause (S.faults shelf.old) (S.faults shelf.new) result }
         ensures kept { KeepsRead (S.files shelf.old) (S.files shelf.new) (S.opened shelf.old) (S.opened shelf.new) (S.reach shelf.old) (S.reach shelf.new) stop }
     {
-        let size = stop - at;
         match role {
-            Role::Other => self.pass_other(shelf, place, at, stop, level),
-            Role::Timestamp if size > 8 => self.pass_long_time(shelf, place, at, stop, level),
-            Role::Timestamp => self.pass_time(shelf, place, at, stop, level),
-            _ if size > LARGEST => self.pass_large_block(shelf, place, role, at, stop, level),
-            _ => self.pass_block(shelf, place, role, at, stop, level),
+            Role::Other => Ok(behind(stop, self.pass_other(shelf, place, at, stop, level)?)),
+            Role::Timestamp if stop - at > 8 => {
+                Ok(behind(stop, self.pass_long_time(shelf, place, at, stop, level)?))
+            }
+            Role::Timestamp => Ok(behind(stop, self.pass_time(shelf, place, at, stop, level)?)),
+            Role::SimpleBlock | Role::BlockGroup => Ok(Reached::Block(Unread {
+                role,
+                at,
+                stop,
+                level,
+            })),
         }
     }
 
-    fn follow<S: Shelf>(&self, shelf: &mut S, place: u64, turn: Turn) -> Result<Step, CursorError>
+    fn follow<S: Shelf>(
+        &self,
+        shelf: &mut S,
+        place: u64,
+        turn: Turn,
+    ) -> Result<Reached, CursorError>
         requires { TurnsOn place turn }
-        ensures value { IfOk result (λ s. Told (content (S.files shelf.old) (S.opened shelf.old) self.now.file.0) (λ octets. TurnStarts place (length octets) turn → s ≡ turned (plan_for octets self.now) place turn)) }
+        ensures value { IfOk result (λ s. Told (content (S.files shelf.old) (S.opened shelf.old) self.now.file.0) (λ octets. TurnStarts place (length octets) turn → step_to (plan_for octets self.now) place s ≡ turned (plan_for octets self.now) place turn)) }
         ensures onward { IfOk result (GoesOn place) }
+        ensures begins { (len : ℕ) → TurnStarts place len turn → IfOk result (BeginsIn len) }
+        ensures unread { IfOk result (λ s. IsUnread s → S.reach shelf.new ≡ S.reach shelf.old) }
         ensures cause { ReadCause (S.faults shelf.old) (S.faults shelf.new) result }
         ensures kept { KeepsRead (S.files shelf.old) (S.files shelf.new) (S.opened shelf.old) (S.opened shelf.new) (S.reach shelf.old) (S.reach shelf.new) (asked_for turn) }
     {
         match turn {
-            Turn::Ends(ending) => Ok(Step::End(ending)),
-            Turn::Moves(Move::Fault(fault)) => Ok(Step::End(Ending::Damaged(place, fault))),
-            Turn::Moves(Move::Enter { to, level }) => Ok(Step::On {
-                to,
-                level,
-                block: None,
-            }),
+            Turn::Ends(ending) => Ok(Reached::End(ending)),
+            Turn::Moves(Move::Fault(fault)) => Ok(Reached::End(Ending::Damaged(place, fault))),
+            Turn::Moves(Move::Enter { to, level }) => Ok(Reached::On { to, level }),
             Turn::Moves(
                 Move::Pass {
                     role,
@@ -290,18 +237,19 @@ impl Cursor {
         }
     }
 
-    /// One step of the walk, at a place of the film. It reads the head there, and then at most up to
-    /// where the element ends.
+    /// One step of the walk, at a place of the film. It reads the head there; of a block element
+    /// nothing more, and else at most up to where the element ends.
     pub(crate) fn step<S: Shelf>(
         &self,
         shelf: &mut S,
         place: u64,
         level: Level,
-    ) -> Result<Step, CursorError>
-        ensures value { IfOk result (λ s. Told (content (S.files shelf.old) (S.opened shelf.old) self.now.file.0) (λ octets. place ≤ length octets → s ≡ step_at (plan_for octets self.now) place level)) }
+    ) -> Result<Reached, CursorError>
+        ensures value { IfOk result (λ s. Told (content (S.files shelf.old) (S.opened shelf.old) self.now.file.0) (λ octets. place ≤ length octets → (step_to (plan_for octets self.now) place s ≡ step_at (plan_for octets self.now) place level) × BeginsIn (length octets) s)) }
         ensures onward { IfOk result (GoesOn place) }
         ensures cause { ReadCause (S.faults shelf.old) (S.faults shelf.new) result }
         ensures kept { Keeps (S.files shelf.old) (S.files shelf.new) (S.opened shelf.old) (S.opened shelf.new) (S.reach shelf.old) (S.reach shelf.new) }
+        ensures unread { IfOk result (λ s. IsUnread s → S.reach shelf.new ≤ max (S.reach shelf.old) (place + 12)) }
         ensures reach { Told (content (S.files shelf.old) (S.opened shelf.old) self.now.file.0) (λ octets. place ≤ length octets → ReadsUpTo (step_at (plan_for octets self.now) place level) (S.reach shelf.old) (S.reach shelf.new)) }
     {
         let found = read_found(shelf, self.file, place)?;

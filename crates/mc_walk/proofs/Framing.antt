@@ -27,7 +27,8 @@ use Rattle.mc_walk.specs.declared.movement.Move.TheVariants as moves
 use Rattle.mc_walk.specs.Moves.{settle, move_of}
 use Rattle.mc_walk.specs.Blocks.{◌>>=◌, faulted, body_in, known_track, timed, tracked, opened, block_element_of}
 use Rattle.mc_walk.specs.Walk.{stands_at, stamped, blocked, time_of, passed, moved, headed, step_at, steps, walk, after, packets_in, film_walk, Rest, Rises}
-use Rattle.mc_walk.specs.Frames.{Comes, IsFrame, StandsBefore, InOrder, AreItsFrames}
+use Rattle.mc_packet.specs.Shape.{StandsBefore, InOrder}
+use Rattle.mc_walk.specs.Frames.{Comes, IsFrame, AreItsFrames}
 use Rattle.mc_walk.specs.Frames.Comes.{here, onward}
 use Rattle.mc_walk.proofs.Rising.{step-rises}
 use Rattle.mc_walk.proofs.Lanes.{all-weaker, IsFrom, FramesFrom, packets_of-frames}
@@ -144,7 +145,7 @@ walk-ordered (suc n) plan place level in_film =
 
 -- ---- each packet is a frame
 
-comes-further : (plan : Plan) (place : ℕ) (level : Level) (last : ℕ) (final : Level) (to : ℕ) (inner : Level) (block : Option (List Packet))
+pub comes-further : (plan : Plan) (place : ℕ) (level : Level) (last : ℕ) (final : Level) (to : ℕ) (inner : Level) (block : Option (List Packet))
     → Comes plan place level last final → step_at plan last final ≡ On to inner block → Comes plan place level to inner
 comes-further plan place level last final to inner block (here _ _) step = onward place level to inner block to inner step (here to inner)
 comes-further plan place level last final to inner block (onward _ _ to' inner' block' _ _ step' further) step =

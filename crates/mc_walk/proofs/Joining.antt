@@ -5,13 +5,16 @@ use Rattle.std.specs.Prelude.{◌==◌}
 use Rattle.mc_packet.specs.declared.packet.Packet.{Packet}
 use Rattle.mc_packet.specs.declared.walk.Ending.{Ending}
 use Rattle.mc_packet.specs.declared.walk.Level.{Level}
+use Rattle.mc_packet.specs.declared.walk.Level.TheVariants as levels
 use Rattle.mc_packet.specs.declared.walk.Mark.{Mark}
 use Rattle.mc_walk.specs.declared.plan.Plan.{Plan}
 use Rattle.mc_walk.specs.declared.plan.Step.{Step}
 use Rattle.mc_walk.specs.declared.plan.Step.TheVariants.{End, On}
 use Rattle.mc_walk.specs.Walk.{step_at, steps, walk, after, in_front, Rest, Rises}
-use Rattle.mc_walk.specs.Parts.{Part, part, part_after, part_at, place_of, level_of, joined, joined_after, opening_mark, PartsAreWhole, IsMark}
-use Rattle.mc_walk.specs.Parts.IsMark.{at_opening, at_end}
+use Rattle.mc_walk.specs.Parts.{mark, Part, part, part_after, part_at, place_of, level_of, joined, joined_after, opening_mark, PartsAreWhole, IsMark}
+use Rattle.mc_walk.specs.Parts.IsMark.{at_opening, at_end, at_block}
+use Rattle.mc_walk.specs.Frames.{Comes}
+use Rattle.mc_walk.specs.Frames.Comes.{here, onward}
 use Rattle.mc_walk.proofs.Rising.{step-rises}
 use Rattle.mc_walk.proofs.Enough.{walk-enough, part-to, EndsOnward}
 
@@ -79,8 +82,18 @@ parts-are-whole plan in_film = joined-walks (steps plan) plan opening_mark in_fi
 place-lies : (plan : Plan) (m : Mark) → plan.opening ≤ length plan.octets → m.pos ≤ length plan.octets → place_of plan m ≤ length plan.octets
 place-lies plan m opens in_film = cond_both (m.pos == 0) plan.opening m.pos (λ place. place ≤ length plan.octets) (λ e. opens) (λ e. in_film)
 
+-- a place to which the walk comes stands behind its start, and within the film
+pub comes-within : (plan : Plan) (place : ℕ) (level : Level) (last : ℕ) (final : Level) → Comes plan place level last final → place ≤ length plan.octets
+    → (place ≤ last) × (last ≤ length plan.octets)
+comes-within plan place level _ _ (here _ _) in_film = (omega arith, in_film)
+comes-within plan place level last final (onward _ _ to inner block _ _ step further) in_film =
+    let rises = rw step at (step-rises plan place level in_film) in
+    let on = comes-within plan to inner last final further rises.1 in
+    (let h = rises.0 in let g = on.0 in omega arith, on.1)
+
 -- a mark from which the film can be read on stands for a place within it
 pub mark-lies : (plan : Plan) (m : Mark) → plan.opening ≤ length plan.octets → IsMark plan m → place_of plan m ≤ length plan.octets
 mark-lies plan m opens at_opening = opens
 mark-lies plan m opens (at_end before is) =
     place-lies plan (part_at plan before).to opens (part-to (steps plan) plan (place_of plan before) (level_of before) (mark-lies plan before opens is)).1
+mark-lies plan m opens (at_block b) = place-lies plan (mark b.place b.level) opens (comes-within plan plan.opening levels.Segment b.place b.level b.stands opens).1

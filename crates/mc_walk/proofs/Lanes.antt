@@ -11,7 +11,7 @@ use Rattle.mc_block.specs.declared.parts.BlockBody.{BlockBody}
 use Rattle.mc_block.specs.Frames.{frames_of}
 use Rattle.mc_block.specs.Block.{head_of, frame_time, in_range, is_key, packet_of, packets_from, packets_behind, packets_of}
 use Rattle.mc_block.specs.Block.{◌>>=◌ as ◌and_then◌}
-use Rattle.mc_walk.specs.Frames.{StandsBefore, InOrder}
+use Rattle.mc_packet.specs.Shape.{StandsBefore, InOrder}
 
 pub all-weaker : {X : Type 0} (P Q : X → Type 0) → ((x : X) → P x → Q x) → (xs : List X) → AllByRecursion P xs → AllByRecursion Q xs
 all-weaker P Q weaker [] h = tt

@@ -1,7 +1,7 @@
 -- What a film's packets are: the frames of the block elements that stand in its walk.
-use Rattle.std.specs.Prelude.{◌≡◌, ◌⊎◌, ℕ, ◌<◌, List, [], ◌∷◌, Option, Some, Contains, ⊤}
-use Rattle.std.specs.List.{AllByRecursion}
+use Rattle.std.specs.Prelude.{◌≡◌, ℕ, List, Option, Some, Contains}
 use Rattle.mc_packet.specs.declared.packet.Packet.{Packet}
+use Rattle.mc_packet.specs.Shape.{InOrder}
 use Rattle.mc_packet.specs.declared.walk.Level.{Level}
 use Rattle.mc_packet.specs.declared.walk.Level.TheVariants as levels
 use Rattle.mc_walk.specs.declared.plan.Plan.{Plan}
@@ -30,14 +30,6 @@ pub record IsFrame (plan : Plan) (p : Packet) : Type 0 where
   pub block : BlockElement plan
   pub among : Contains block.frames p
   pub offset : p.pos.block ≡ block.place
-
--- packets stand in order of their places, so that none stands twice: by block, and then by frame
-abbrev pub StandsBefore : Packet → Packet → Type 0
-StandsBefore p q = (p.pos.block < q.pos.block) ⊎ ((p.pos.block ≡ q.pos.block) × (p.pos.lane < q.pos.lane))
-
-abbrev pub InOrder : List Packet → Type 0
-InOrder [] = ⊤
-InOrder (p ∷ ps) = AllByRecursion (StandsBefore p) ps × InOrder ps
 
 -- each packet is a frame of a block element that stands in the walk, at its offset; each frame of such a block element
 -- is a packet; and each of them is there once

@@ -11,6 +11,7 @@ use Rattle.mc_walk.specs.declared.plan.Plan.{Plan}
 use Rattle.mc_walk.specs.declared.plan.Step.{Step}
 use Rattle.mc_walk.specs.declared.plan.Step.TheVariants.{End, On}
 use Rattle.mc_walk.specs.Walk.{step_at, steps, Rest, in_front, film_walk}
+use Rattle.mc_walk.specs.Frames.{BlockElement}
 
 abbrev pub mark : ℕ → Level → Mark
 mark place level = record { pos = place; level = level }
@@ -76,3 +77,4 @@ PartsAreWhole plan = joined (steps plan) plan opening_mark ≡ film_walk plan
 pub data IsMark (plan : Plan) : Mark → Type 0 where
   at_opening : IsMark plan opening_mark
   at_end : (m : Mark) → IsMark plan m → IsMark plan (part_at plan m).to
+  at_block : (b : BlockElement plan) → IsMark plan (mark b.place b.level)

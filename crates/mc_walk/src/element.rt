@@ -1,6 +1,9 @@
-ghost use Rattle.std.specs.Prelude.{◌≡◌, Option, option_map};
+ghost use Rattle.std.specs.Prelude.{◌≡◌, ◌+◌, ◌^◌, ◌<◌, ◌≤◌, ℕ, length, Ok, IfOk, IfSome};
 ghost use Rattle.std.specs.Option.{option_copied};
 ghost use Rattle.mc_walk.specs.declared.element.WalkError.TheVariants.{NoMemory};
+ghost use Rattle.mc_packet.specs.Shape.{AreBetween};
+ghost use Rattle.mc_block.specs.Block.{track_of};
+ghost use Rattle.mc_tracks.specs.TrackList.{IsTrackList};
 ghost use Rattle.mc_walk.specs.Answers.{Gives};
 ghost use Rattle.mc_walk.specs.Blocks.{fault_of, faulted, body_in, known_track, timed, some_opened, opened, tracked, block_element_of};
 
@@ -28,7 +31,10 @@ impl From<AllocError> for WalkError {
 }
 
 impl From<BlockError> for WalkError {
-    ghost use Rattle.mc_walk.specs.Answers.{walk_error};
+    ghost use Rattle.mc_packet.specs.Shape.{AreBetween};
+ghost use Rattle.mc_block.specs.Block.{track_of};
+ghost use Rattle.mc_tracks.specs.TrackList.{IsTrackList};
+ghost use Rattle.mc_walk.specs.Answers.{walk_error};
 
     ghost from_gives = { λ b e. e ≡ walk_error b };
 
@@ -46,7 +52,8 @@ impl From<BlockError> for WalkError {
 
 // The block of an element, which a group may lack.
 fn body_of(role: Role, octets: &Bytes) -> Result<Option<BlockBody>, WalkError>
-    ensures { Gives result (faulted (body_in role octets.now)) }
+    ensures value { Gives result (faulted (body_in role octets.now)) }
+    ensures small { IfOk result (λ found. IfSome found (λ body. length body.octets ≤ 67108864)) }
 {
     match role {
         Role::SimpleBlock => Ok(Some(simple_body(octets)?)),
@@ -55,8 +62,8 @@ fn body_of(role: Role, octets: &Bytes) -> Result<Option<BlockBody>, WalkError>
     }
 }
 
-// The track of this number, where it is listed and not encoded.
-fn find_known(tracks: &TrackList, no: TrackNo) -> Option<&Track>
+/// The track of this number, where it is listed and not encoded.
+pub(crate) fn find_known(tracks: &TrackList, no: TrackNo) -> Option<&Track>
     ensures { option_copied result ≡ known_track tracks.now no }
 {
     match tracks.get(no) {
@@ -74,7 +81,8 @@ fn timed_packets(
     body: &BlockBody,
     duration: Option<u64>,
 ) -> Result<Packets, WalkError>
-    ensures { Gives result (timed place scale time body.now duration) }
+    ensures value { Gives result (timed place scale time body.now duration) }
+    ensures law { (n : ℕ) → track_of body.now.octets ≡ Ok n → 0 < n → n < 2 ^ 56 → length body.now.octets ≤ 67108864 → IfOk result (AreBetween place (place + 1)) }
 {
     let Some(cluster_time) = time else {
         return Err(WalkError::Fault(Fault::NoTime));
@@ -97,9 +105,10 @@ fn known_packets(
     time: Option<u64>,
     body: &BlockBody,
 ) -> Result<Packets, WalkError>
-    ensures { Gives result (some_opened tracks.now place scale time body.now) }
+    ensures value { Gives result (some_opened tracks.now place scale time body.now) }
+    ensures law { IsTrackList tracks.now → length body.now.octets ≤ 67108864 → IfOk result (AreBetween place (place + 1)) }
 {
-    let no = block_track(body)?;
+    let no = block_track(body.octets.as_slice())?;
     match find_known(tracks, no) {
         Some(track) => timed_packets(alloc, place, scale, time, body, track.duration),
         None => Ok(Packets::new(alloc)),
@@ -111,7 +120,8 @@ fn known_packets(
 ///
 /// The faults come in this order: `TooLarge`, `BadGroup`, `ShortBlock` at the track number; a
 /// block of a track that is not listed, or encoded, gives no packets; then `NoTime`,
-/// `ShortBlock`, `BadLace`, `TimeRange`.
+/// `ShortBlock`, `BadLace`, `TimeRange`. Whatever the octets are, the packets are at most 256 of one
+/// track, at this place and in order, with payloads of at most 67,108,864 octets together.
 #[tactic(auto, unfolding(crate::specs::Blocks::block_element_of))]
 pub fn block_element(
     alloc: Global,
@@ -122,7 +132,8 @@ pub fn block_element(
     role: Role,
     octets: &Bytes,
 ) -> Result<Packets, WalkError>
-    ensures { Gives result (block_element_of tracks.now scale place time role octets.now) }
+    ensures value { Gives result (block_element_of tracks.now scale place time role octets.now) }
+    ensures law { IsTrackList tracks.now → IfOk result (AreBetween place (place + 1)) }
 {
     match body_of(role, octets)? {
         Some(body) => known_packets(alloc, tracks, scale, place, time, &body),

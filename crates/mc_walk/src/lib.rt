@@ -8,9 +8,11 @@
 #![tactic(auto)]
 
 mod element;
+mod front;
 mod movement;
 mod plan;
 
 pub use element::{WalkError, block_element};
+pub use front::{BlockMark, Glance, simple_glance};
 pub use movement::{Move, Role, last_ending, move_at, settled};
 pub use plan::{Header, Plan, Segment, Step};

@@ -12,7 +12,7 @@ returns-in_err-found-clause-reach g c = λ octets told le.
 pub returns-clause-value : goal.returns-clause-value
 returns-clause-value g c =
     step_value _ _ c.args.self.now c.args.place c.args.level c.in_ok-found.found c.next_turn-turn.result c.follow.result
-    (content_kept _ _ _ _ _ _ _ c.args.self.now.file.0 c.read_found.ensures.kept) c.next_turn-turn.ensures.value c.in_ok-found.ensures.value c.follow.ensures.value
+    (content_kept _ _ _ _ _ _ _ c.args.self.now.file.0 c.read_found.ensures.kept) c.next_turn-turn.ensures.value c.in_ok-found.ensures.value c.follow.ensures.value c.follow.ensures.begins
 
 pub returns-clause-reach : goal.returns-clause-reach
 returns-clause-reach g c =

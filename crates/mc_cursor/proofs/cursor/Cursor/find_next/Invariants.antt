@@ -4,7 +4,7 @@ use Rattle.mc_cursor.specs.Causes.{Keeps}
 use Rattle.mc_cursor.specs.Reads.{Told}
 use Rattle.mc_cursor.specs.Standing.{StandsFor}
 use Rattle.mc_cursor.proofs.Chunks.{SoFar}
-use Rattle.mc_cursor.proofs.cursor.Cursor.read_chunk.Given as goal
+use Rattle.mc_cursor.proofs.cursor.Cursor.find_next.Given as goal
 
 -- what was read so far, and what was kept
 abbrev pub invariant-loop-ending : goal.invariant-loop-ending
@@ -12,6 +12,7 @@ invariant-loop-ending g l = record {
   later : g.S.Shelf.faults l.initial.shelf ≤ g.S.Shelf.faults l.shelf;
   kept : Keeps (g.S.Shelf.files l.initial.shelf) (g.S.Shelf.files l.shelf) (g.S.Shelf.opened l.initial.shelf) (g.S.Shelf.opened l.shelf) (g.S.Shelf.reach l.initial.shelf) (g.S.Shelf.reach l.shelf);
   positive : 0 < l.place;
+  onward : l.self.mark.pos ≤ l.place;
   told : Told (content (g.S.Shelf.files l.initial.shelf) (g.S.Shelf.opened l.initial.shelf) l.self.file.0)
       (λ octets. StandsFor octets l.self → SoFar octets l.self l.place l.level (g.S.Shelf.reach l.initial.shelf) (g.S.Shelf.reach l.shelf));
 }

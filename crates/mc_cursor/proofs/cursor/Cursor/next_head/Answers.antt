@@ -1,0 +1,10 @@
+use Rattle.std.proofs.Common.{ap}
+use Rattle.mc_cursor.specs.declared.head.HeadChunk.{HeadChunk}
+use Rattle.mc_cursor.proofs.Standing.{stands_after}
+use Rattle.mc_cursor.proofs.cursor.Cursor.next_head.Goals as goal
+
+pub returns-clause-value : goal.returns-clause-value
+returns-clause-value g c = λ octets told stands.
+    let is = c.in_ok-head.ensures.value octets told stands in
+    let after = stands_after octets c.args.self.now c.in_ok-head.head.to stands (ap (λ (k : HeadChunk). k.to) is) in
+    (is, record { opened = after.opened; within = after.within })

@@ -19,9 +19,9 @@ make_film() {
         *200MB*) # mpeg2 at a fixed high rate, and PCM: many octets for little work
             ffmpeg -v error -y -f lavfi -i testsrc2=size=1280x720:rate=25 -f lavfi -i $sine -t 40 \
                 -c:v mpeg2video -b:v 40M -minrate 40M -maxrate 40M -bufsize 8M -g 12 -c:a pcm_s16le "$1" ;;
-        *) # small raw pictures and PCM, for two hours
-            ffmpeg -v error -y -f lavfi -i testsrc2=size=48x24:rate=25 -f lavfi -i $sine -t 7200 \
-                -c:v rawvideo -pix_fmt yuv420p -c:a pcm_s16le "$1" ;;
+        *) # small pictures and PCM, for two hours
+            ffmpeg -v error -y -f lavfi -i testsrc2=size=160x120:rate=25 -f lavfi -i $sine -t 7200 \
+                -c:v mpeg2video -q:v 2 -g 12 -c:a pcm_s16le "$1" ;;
     esac || exit 1
 }
 
@@ -60,7 +60,8 @@ for film in "${films[@]}"; do
     command -v ffmpeg >/dev/null && report "ffmpeg -map 0 -c copy -f framecrc" ffmpeg -v error -i "$film" -map 0 -c copy -f framecrc -
     command -v ffprobe >/dev/null && report "ffprobe -show_packets, checksums" ffprobe -v error -show_packets -show_data_hash CRC32 -of csv "$film"
     if command -v mkvextract >/dev/null; then
-        tracks=$(mkvmerge -J "$film" | python3 -c 'import json,sys; print(" ".join("%d:/dev/null" % t["id"] for t in json.load(sys.stdin)["tracks"]))')
+        # it wants a file of its own for each track, so /dev/null is spelled in as many ways
+        tracks=$(mkvmerge -J "$film" | python3 -c 'import json,sys; print(" ".join("%d:/dev%s/null" % (t["id"], "/." * t["id"]) for t in json.load(sys.stdin)["tracks"]))')
         # shellcheck disable=SC2086
         report "mkvextract tracks" mkvextract "$film" tracks $tracks
     fi

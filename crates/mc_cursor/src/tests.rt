@@ -151,7 +151,12 @@ fn reads_no_payload_of_a_head(rt: HostRuntime) -> Result<(), Fail> {
     let mut cursor = Cursor::begin(alloc, &mut shelf, file)?;
     let opening = cursor.mark();
     let head = cursor.next_head(&mut shelf)?;
-    assert!(rt; head.to.pos == 118 && head.block.is_some_and(|b| b.pos == 86 && b.time == 5_000_000));
+    assert!(rt;
+        head.to.pos == 118
+            && head
+                .block
+                .is_some_and(|b| b.pos == 86 && b.time == 5_000_000)
+    );
     cursor.goto(opening);
     let failed = cursor.next_chunk(&mut shelf);
     assert!(rt; failed.is_err_and(|e| e == CursorError::ReadFault));

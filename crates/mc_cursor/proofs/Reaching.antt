@@ -1,6 +1,6 @@
 -- From a mark to what ends its part.
-use Rattle.std.proofs.Common.{◌≡◌, ℕ, ◌+◌, ◌<◌, ◌≤◌, max, List, [], length, Option, Some, None, Result, Ok, Err, refl, sym, ap, ◌∙◌, arith}
-use Rattle.std.specs.Prelude.{OnErr}
+use Rattle.std.proofs.Common.{◌≡◌, ℕ, ◌+◌, ◌<◌, ◌≤◌, max, List, [], ◌∷◌, length, Option, Some, None, Result, Ok, Err, refl, sym, ap, ◌∙◌, subst, arith}
+use Rattle.std.specs.Prelude.{OnErr, IfSome}
 use Rattle.mc_packet.specs.declared.packet.Packet.{Packet}
 use Rattle.mc_packet.specs.declared.walk.Chunk.{Chunk}
 use Rattle.mc_packet.specs.declared.walk.Ending.{Ending}
@@ -11,14 +11,17 @@ use Rattle.mc_walk.specs.declared.plan.Plan.{Plan}
 use Rattle.mc_walk.specs.declared.plan.Step.{Step}
 use Rattle.mc_walk.specs.declared.plan.Step.TheVariants.{End, On}
 use Rattle.mc_walk.specs.Walk.{step_at, steps}
-use Rattle.mc_walk.specs.Parts.{mark, Part, part, part_at, chunk_of, chunk_at}
+use Rattle.mc_walk.specs.Parts.{mark, Part, part, part_at, chunk_of, chunk_at, IsMark}
+use Rattle.mc_walk.specs.Glances.{first_mark}
 use Rattle.mc_cursor.specs.declared.cursor.Cursor.{Cursor}
 use Rattle.mc_cursor.specs.declared.head.HeadChunk.{HeadChunk}
 use Rattle.mc_cursor.specs.declared.next.Next.TheVariants as nexts
 use Rattle.mc_cursor.specs.declared.step.Unread.{Unread}
-use Rattle.mc_cursor.specs.Heads.{head_chunk_of, part_by, part_to, IsNext, mark_taken, head_by}
-use Rattle.mc_cursor.specs.Standing.{plan_for, ReadsPart}
+use Rattle.mc_walk.proofs.Marks.{block-marked}
+use Rattle.mc_cursor.specs.Heads.{IsBlockAt, BlockIsMark, head_chunk_of, part_by, part_to, IsNext, mark_taken, head_by}
+use Rattle.mc_cursor.specs.Standing.{plan_for, StandsFor, ReadsPart}
 use Rattle.mc_cursor.specs.Steps.{taken_of, taken_step}
+use Rattle.mc_cursor.proofs.Standing.{opening_lies}
 use Rattle.mc_cursor.proofs.Chunks.{SoFar, part_ends, part_gives}
 
 pub next_end : (octets : List ℕ) (cursor : Cursor) (place : ℕ) (level : Level) (ending : Ending) (before now : ℕ) → SoFar octets cursor place level before now
@@ -61,6 +64,22 @@ pub block_head : (octets : List ℕ) (cursor : Cursor) (at : Mark) (b : Unread) 
 block_head octets cursor at b first next is =
     let taken = taken_of (plan_for octets cursor) at.pos b in
     ap (head_by cursor.mark at b) is ∙ head_taken cursor.mark at b taken ∙ ap head_chunk_of (block_chunk octets cursor at b taken next refl)
+
+-- ---- the mark of its block element
+
+mark_by : (plan : Plan) (m : Mark) (packets : List Packet) → 0 < plan.opening → plan.opening ≤ length plan.octets → IsMark plan m → (part_at plan m).packets ≡ packets
+    → IfSome (first_mark packets) (λ b. IsBlockAt plan m (mark b.pos (part_at plan m).to.level))
+mark_by plan m [] behind opens is has = tt
+mark_by plan m (p ∷ ps) behind opens is has = let both = block-marked plan m p ps behind opens is has in record { is_mark = both.0; same = both.1 }
+
+pub block_is_mark : (octets : List ℕ) (cursor : Cursor) (k : HeadChunk) → StandsFor octets cursor → k ≡ head_chunk_of (chunk_at (plan_for octets cursor) cursor.mark)
+    → IsMark (plan_for octets cursor) cursor.mark → BlockIsMark (plan_for octets cursor) k
+block_is_mark octets cursor k stands is at =
+    let lies = opening_lies octets cursor stands in
+    let m = cursor.mark in
+    let by : BlockIsMark (plan_for octets cursor) (head_chunk_of (chunk_at (plan_for octets cursor) m)) =
+    mark_by (plan_for octets cursor) m (part_at (plan_for octets cursor) m).packets lies.0 lies.1 at refl in
+    subst (BlockIsMark (plan_for octets cursor)) (sym is) by
 
 -- ---- how far they read
 

@@ -24,9 +24,12 @@ part_within plan m opening within =
     let onward = part-to (steps plan) plan (place_of plan m) (level_of m) within in
     place_within plan (part_at plan m).to opening onward.1
 
+pub opening_lies : (octets : List ℕ) (cursor : Cursor) → StandsFor octets cursor → (0 < cursor.opening) × (cursor.opening ≤ length octets)
+opening_lies octets cursor stands =
+    subst (λ (r : Result Plan Refused). IfOk r (λ plan. (0 < plan.opening) × (plan.opening ≤ length plan.octets))) stands.opened (opened-lies octets)
+
 opening_within : (octets : List ℕ) (cursor : Cursor) → StandsFor octets cursor → cursor.opening ≤ length octets
-opening_within octets cursor stands =
-    let lies = subst (λ (r : Result Plan Refused). IfOk r (λ plan. (0 < plan.opening) × (plan.opening ≤ length plan.octets))) stands.opened (opened-lies octets) in lies.1
+opening_within octets cursor stands = (opening_lies octets cursor stands).1
 
 -- it stands for it at the end of the part that was read
 pub stands_after : (octets : List ℕ) (cursor : Cursor) (to : Mark) → StandsFor octets cursor → to ≡ (part_at (plan_for octets cursor) cursor.mark).to

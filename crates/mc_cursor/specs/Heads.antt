@@ -1,5 +1,5 @@
 -- What ends a part, before its block element is read, and a chunk without its payloads.
-use Rattle.std.specs.Prelude.{◌≡◌, ℕ, ◌<◌, ◌≤◌, List, [], length, Option, Some, None, Result, Ok, Err, ⊤}
+use Rattle.std.specs.Prelude.{◌≡◌, ℕ, ◌<◌, ◌≤◌, List, [], length, Option, Some, None, IfSome, Result, Ok, Err, ⊤}
 use Rattle.mc_packet.specs.declared.packet.Packet.{Packet}
 use Rattle.mc_packet.specs.declared.walk.Chunk.{Chunk}
 use Rattle.mc_packet.specs.declared.walk.Ending.{Ending}
@@ -10,7 +10,7 @@ use Rattle.mc_walk.specs.declared.front.Glance.{Glance}
 use Rattle.mc_walk.specs.declared.front.Glance.TheVariants as glances
 use Rattle.mc_walk.specs.declared.plan.Plan.{Plan}
 use Rattle.mc_walk.specs.Glances.{first_mark}
-use Rattle.mc_walk.specs.Parts.{mark, Part, part_at}
+use Rattle.mc_walk.specs.Parts.{mark, Part, part_at, IsMark}
 use Rattle.mc_cursor.specs.declared.cursor.Cursor.{Cursor}
 use Rattle.mc_cursor.specs.declared.head.HeadChunk.{HeadChunk}
 use Rattle.mc_cursor.specs.declared.next.Next.{Next}
@@ -22,6 +22,15 @@ use Rattle.mc_cursor.specs.Steps.{IsBlock, taken_of}
 -- a chunk with the first packet of its block in short
 abbrev pub head_chunk_of : Chunk → HeadChunk
 head_chunk_of c = record { from = c.from; to = c.to; block = first_mark c.packets; ending = c.ending }
+
+-- a mark at which the block element of a part stands, and from which the same part is read
+pub record IsBlockAt (plan : Plan) (m at : Mark) : Type 0 where
+  pub is_mark : IsMark plan at
+  pub same : part_at plan at ≡ part_at plan m
+
+-- so is its place, with the level of the part's end
+abbrev pub BlockIsMark : Plan → HeadChunk → Type 0
+BlockIsMark plan k = IfSome k.block (λ b. IsBlockAt plan k.from (mark b.pos k.to.level))
 
 -- the part that a block element ends, by its packets or the ending at its place
 abbrev pub part_by : Mark → Unread → Result (List Packet) Ending → Part

@@ -37,7 +37,7 @@ pub struct Cursor {
 }
 
 impl Cursor {
-    ghost use Rattle.mc_cursor.specs.Heads.{head_chunk_of, part_by, head_by};
+    ghost use Rattle.mc_cursor.specs.Heads.{head_chunk_of, part_by, head_by, BlockIsMark};
     ghost use Rattle.mc_cursor.specs.Standing.{plan_for, StandsFor, start_of, tracks_of, scale_of, mark_of, file_of, at_mark, ReadsPart};
 
     /// The film's tracks: at most 64, whose numbers differ and are not 0, with texts of at most
@@ -98,8 +98,12 @@ impl Cursor {
     /// Reads on as `next_chunk` does, and moves alike, but reads no payload: of a SimpleBlock without
     /// a lace at most the first 12 octets of the body, and the last, to learn that the film reaches
     /// so far. A lace and a BlockGroup are read whole.
+    ///
+    /// From the block's offset, at the level of the chunk's end, the same part is read again: that is
+    /// a mark of the film.
     pub fn next_head<S: Shelf>(&mut self, shelf: &mut S) -> Result<HeadChunk, CursorError>
         ensures value { IfOk result (λ k. Told (content (S.files shelf.old) (S.opened shelf.old) (file_of self.old)) (λ octets. StandsFor octets self.old → (k ≡ head_chunk_of (chunk_at (plan_for octets self.old) (mark_of self.old))) × StandsFor octets self.new)) }
+        ensures marks { IfOk result (λ k. Told (content (S.files shelf.old) (S.opened shelf.old) (file_of self.old)) (λ octets. StandsFor octets self.old → IsMark (plan_for octets self.old) (mark_of self.old) → BlockIsMark (plan_for octets self.old) k)) }
         ensures moves { IfOk result (λ k. (k.from ≡ mark_of self.old) × (self.new ≡ at_mark self.old k.to)) }
         ensures err { OnErr result (self.new ≡ self.old) }
         ensures cause { ReadCause (S.faults shelf.old) (S.faults shelf.new) result }

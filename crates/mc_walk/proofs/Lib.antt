@@ -3,6 +3,7 @@ pub mod Enough
 pub mod Joining
 pub mod Lanes
 pub mod Framing
+pub mod Marks
 pub mod Glancing
 pub mod Shaped
 pub mod Opened

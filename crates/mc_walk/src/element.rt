@@ -32,9 +32,9 @@ impl From<AllocError> for WalkError {
 
 impl From<BlockError> for WalkError {
     ghost use Rattle.mc_packet.specs.Shape.{AreBetween};
-ghost use Rattle.mc_block.specs.Block.{track_of};
-ghost use Rattle.mc_tracks.specs.TrackList.{IsTrackList};
-ghost use Rattle.mc_walk.specs.Answers.{walk_error};
+    ghost use Rattle.mc_block.specs.Block.{track_of};
+    ghost use Rattle.mc_tracks.specs.TrackList.{IsTrackList};
+    ghost use Rattle.mc_walk.specs.Answers.{walk_error};
 
     ghost from_gives = { λ b e. e ≡ walk_error b };
 

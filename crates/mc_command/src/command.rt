@@ -1,0 +1,56 @@
+use mc_value::{Text, Words};
+use std::alloc::AllocError;
+
+/// A command of a client.
+#[derive(Debug, Drop)]
+pub enum Command {
+    /// To another time, in nanoseconds: at `t` where it is absolute, else that much behind the
+    /// present one. `forward` asks for the first place at or behind it, not before it.
+    Seek {
+        t: i64,
+        absolute: bool,
+        forward: bool,
+    },
+    /// Sets a property to a text.
+    Set {
+        name: Text,
+        value: Text,
+    },
+    /// Turns a property over.
+    Cycle {
+        name: Text,
+    },
+    /// Words to every client.
+    Message {
+        words: Words,
+    },
+    /// Words to one client.
+    MessageTo {
+        client: Text,
+        words: Words,
+    },
+    /// Nothing.
+    Ignore,
+    /// Ends the player.
+    Quit,
+}
+
+/// Why a line gives no words, or words no command.
+#[derive(Clone, Copy, Debug, PartialEq, Eq)]
+pub enum CommandError {
+    /// The first wrong or missing word, by its number from 0; 2^32 - 1 stands for each greater one.
+    Bad { word: u32 },
+    /// There was no memory for the answer.
+    NoMemory,
+}
+
+impl From<AllocError> for CommandError {
+    ghost use Rattle.std.specs.Prelude.{◌≡◌};
+    ghost use Rattle.mc_command.specs.declared.command.CommandError.TheVariants.{NoMemory};
+
+    ghost from_gives = { λ _ e. e ≡ NoMemory };
+
+    fn from(_error: AllocError) -> CommandError {
+        CommandError::NoMemory
+    }
+}

@@ -11,3 +11,6 @@ mod scan;
 pub use command::{Command, CommandError};
 pub use line::split_line;
 pub use parsing::parse_command;
+
+#[cfg(test)]
+mod tests;

@@ -1,7 +1,9 @@
-ghost use Rattle.mc_command.specs.Commands.{Parses, cycle_command, flag_of, message_command, parsed, parsed_as, plain_command, seek_at, seek_command, seek_with, send_command, set_command, verb_of};
+ghost use Rattle.mc_command.specs.Commands.{Found, Parses, cycle_command, flag_of, message_command, parsed, parsed_as, plain_command, seek_at, seek_command, seek_with, send_command, set_command, verb_of};
+ghost use Rattle.mc_command.specs.Table.{Means};
+ghost use Rattle.mc_command.specs.declared.command.Command.{Command};
 ghost use Rattle.mc_command.specs.declared.command.Command.TheVariants.{Ignore, Quit};
 ghost use Rattle.mc_value.specs.Seconds.{seconds_of};
-ghost use Rattle.std.specs.Prelude.{◌≡◌};
+ghost use Rattle.std.specs.Prelude.{Result, ◌≡◌, ℕ};
 
 use crate::command::{Command, CommandError};
 use mc_value::{Text, Words, copy_words, parse_seconds};
@@ -23,9 +25,19 @@ pub enum Verb {
 /// is given) or `absolute`, `set NAME VALUE`, `cycle NAME`, `script-message WORD...`,
 /// `script-message-to CLIENT WORD...`, `ignore` or `quit`. `Bad` for all other words.
 pub fn parse_command(alloc: Global, words: &Words) -> Result<Command, CommandError>
+    ensures value { Parses result (parsed words.now) }
+    // The table has the command for the words, or they leave it at the word that is named.
+    ensures meant { Found result (Means words.now) }
+    // Nothing else is so.
+    ensures only { (said : Result Command ℕ) → Means words.now said → Parses result said }
+{
+    parse_words(alloc, words.as_slice())
+}
+
+fn parse_words(alloc: Global, words: &[Text]) -> Result<Command, CommandError>
     ensures { Parses result (parsed words.now) }
 {
-    match words.as_slice() {
+    match words {
         [] => Err(CommandError::Bad { word: 0 }),
         [name, args @ ..] => parse_verb(alloc, first_word(name.as_str()), args),
     }

@@ -175,7 +175,7 @@ fn is_blank(c: char) -> bool
     c == ' ' || c == '\t'
 }
 
-/// Whether a `\\` before it is an escape.
+/// Whether a `\` before it is an escape.
 fn is_special(c: char) -> bool
     ensures { result ≡ is_special c }
 {

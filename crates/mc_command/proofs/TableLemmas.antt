@@ -1,15 +1,18 @@
 -- Words are parsed as the command that the table has for them, or up to where they leave it.
-use Rattle.std.proofs.Common.{◌≡◌, ℕ, zero, suc, ℤ, pos, ◌+◌, ◌<◌, ◌≤◌, Bool, true, false, List, [], ◌∷◌, ◌++◌, length, take, drop, refl, sym, ap, ◌∙◌, subst, arith, append_assoc, inl, inr}
-use Rattle.std.proofs.lemmas.Bool.{cases_Bool, cases_order}
+use Rattle.std.proofs.Common.{cond, ◌≡◌, ℕ, zero, suc, ℤ, pos, leb, ◌^◌, ◌-◌, ◌+◌, ◌<◌, ◌≤◌, Bool, true, false, List, [], ◌∷◌, ◌++◌, length, take, drop, refl, sym, ap, ◌∙◌, subst, arith, append_assoc, inl, inr}
+use Rattle.std.proofs.lemmas.Bool.{cases_Bool, cases_order, cond_both, le-leb, leb-true}
 use Rattle.std.proofs.lemmas.List.{take-append-drop}
 use Rattle.std.proofs.lemmas.Slice.Eq.{bytes_eq-Decides}
-use Rattle.std.specs.Prelude.{codes, Option, Some, None, Result, Ok, Err}
+use Rattle.std.specs.Int.Signed.{le_z_yes}
+use Rattle.std.specs.Option.{unwrap_or}
+use Rattle.std.specs.Prelude.{◌≤ℤ◌, neg_ℤ, T, IfOk, ◌==◌, if◌then◌else◌, codes, Option, Some, None, Result, Ok, Err}
 use Rattle.std.specs.Str.{bytes_eq}
-use Rattle.mc_value.specs.Seconds.{seconds_of}
+use Rattle.mc_value.specs.Seconds.{seconds_of, time_of, unsigned_seconds}
 use Rattle.mc_command.specs.declared.command.Command.{Command}
+use Rattle.mc_command.specs.declared.command.CommandError.{CommandError}
 use Rattle.mc_command.specs.declared.command.Command.TheVariants as commands
-use Rattle.mc_command.specs.Commands.{flag_of, parsed, seek_with, verb_of}
-use Rattle.mc_command.specs.Table.{IsFirstBad, Means, Says, Starts, flag}
+use Rattle.mc_command.specs.Commands.{Parses, flag_of, parsed, seek_with, verb_of}
+use Rattle.mc_command.specs.Table.{IsFirstBad, IsNear, Means, Says, Starts, flag}
 use Rattle.mc_command.specs.Table.Says.{seek, seek_by_flag, seek_forward, set, cycle, message, message_to, ignore, quit}
 
 -- what is parsed of a row's words
@@ -169,3 +172,46 @@ parsed_means ws = means ws
 pub parsed_only : (ws : List (List ℕ)) (said : Result Command ℕ) → Means ws said → parsed ws ≡ said
 parsed_only ws (Ok command) row = row_parsed row
 parsed_only ws (Err n) bad = only_bad ws (parsed ws) (means ws) n bad
+
+-- times are near
+
+abbrev Near : ℤ → Type 0
+Near t = (neg_ℤ (pos (2 ^ 62)) ≤ℤ t) × (t ≤ℤ pos (2 ^ 62))
+
+yes : (b : Bool) → b ≡ true → T b
+yes b e = subst T (sym e) tt
+
+near_pos : (n : ℕ) → n ≤ 2 ^ 62 → Near (pos n)
+near_pos n le = (le_z_yes tt, le_z_yes (yes (leb n (2 ^ 62)) (le-leb n (2 ^ 62) le)))
+
+near_neg : (n : ℕ) → n ≤ 2 ^ 62 → Near (neg_ℤ (pos n))
+near_neg zero le = near_pos 0 le
+near_neg (suc n) le = (le_z_yes (yes (leb n (2 ^ 62 - 1)) (le-leb n (2 ^ 62 - 1) (omega arith))), le_z_yes tt)
+
+within : (b : Bool) (x t : ℤ) → cond b (Some x) None ≡ Some t → (b ≡ true) × (x ≡ t)
+within true x t e = (refl, ap (λ o. unwrap_or o x) e)
+within false x t e = cc
+
+time_near : (minus : Bool) (o : Option ℕ) (t : ℤ) → time_of minus o ≡ Some t → Near t
+time_near minus None t e = cc
+time_near true (Some n) t e = let k = within (leb n (2 ^ 62)) (neg_ℤ (pos n)) t e in subst Near k.1 (near_neg n (leb-true n (2 ^ 62) k.0))
+time_near false (Some n) t e = let k = within (leb n (2 ^ 62)) (pos n) t e in subst Near k.1 (near_pos n (leb-true n (2 ^ 62) k.0))
+
+seconds_near : (s : List ℕ) (t : ℤ) → seconds_of s ≡ Some t → Near t
+seconds_near [] t = λ e. cc
+seconds_near (c ∷ cs) t = cond_both (c == 45) (time_of true (unsigned_seconds cs)) (if c == 43 then time_of false (unsigned_seconds cs) else time_of false (unsigned_seconds (c ∷ cs))) (λ o. o ≡ Some t → Near t) (λ _. time_near true (unsigned_seconds cs) t) (λ _. cond_both (c == 43) (time_of false (unsigned_seconds cs)) (time_of false (unsigned_seconds (c ∷ cs))) (λ o. o ≡ Some t → Near t) (λ _. time_near false (unsigned_seconds cs) t) (λ _. time_near false (unsigned_seconds (c ∷ cs)) t))
+
+row_near : {ws : List (List ℕ)} {command : Command} → Says ws command → IsNear command
+row_near (seek s t e) = seconds_near s t e
+row_near (seek_by_flag s t absolute e) = seconds_near s t e
+row_near (seek_forward s t absolute e) = seconds_near s t e
+row_near (set name value) = tt
+row_near (cycle name) = tt
+row_near (message w ws) = tt
+row_near (message_to client w ws) = tt
+row_near ignore = tt
+row_near quit = tt
+
+pub parsed_near : (ws : List (List ℕ)) (r : Result Command CommandError) → Parses r (parsed ws) → IfOk r IsNear
+parsed_near ws (Ok command) e = row_near (subst (Means ws) e (means ws))
+parsed_near ws (Err why) e = tt

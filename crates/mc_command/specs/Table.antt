@@ -1,5 +1,5 @@
 -- The table of commands, and where other words leave it.
-use Rattle.std.specs.Prelude.{◌≡◌, ℕ, ℤ, ◌+◌, ◌<◌, ◌≤◌, Bool, true, false, List, [], ◌∷◌, ◌++◌, codes, length, take, Some, Result, Ok, Err}
+use Rattle.std.specs.Prelude.{◌≡◌, ℕ, ℤ, pos, neg_ℤ, ◌≤ℤ◌, ◌+◌, ◌^◌, ◌<◌, ◌≤◌, Bool, true, false, List, [], ◌∷◌, ◌++◌, codes, length, take, Some, Result, Ok, Err, ⊤}
 use Rattle.mc_value.specs.Seconds.{seconds_of}
 use Rattle.mc_command.specs.declared.command.Command.{Command}
 use Rattle.mc_command.specs.declared.command.Command.TheVariants as commands
@@ -36,3 +36,13 @@ pub record IsFirstBad (ws : List (List ℕ)) (n : ℕ) : Type 0 where
 abbrev pub Means : List (List ℕ) → Result Command ℕ → Type 0
 Means ws (Ok command) = Says ws command
 Means ws (Err n) = IsFirstBad ws n
+
+-- a time at most 2^62 nanoseconds on either side of 0
+abbrev pub IsNear : Command → Type 0
+IsNear (commands.Seek t absolute forward) = (neg_ℤ (pos (2 ^ 62)) ≤ℤ t) × (t ≤ℤ pos (2 ^ 62))
+IsNear (commands.Set name value) = ⊤
+IsNear (commands.Cycle name) = ⊤
+IsNear (commands.Message words) = ⊤
+IsNear (commands.MessageTo client words) = ⊤
+IsNear commands.Ignore = ⊤
+IsNear commands.Quit = ⊤

@@ -4,19 +4,20 @@ use std::alloc::AllocError;
 /// A command of a client.
 #[derive(Debug, Drop)]
 pub enum Command {
-    /// To another time, in nanoseconds: at `t` where it is absolute, else that much behind the
-    /// present one. `forward` asks for the first place at or behind it, not before it.
+    /// To another time, in nanoseconds: to `t` where it is absolute, else by `t` from the present
+    /// time on. It goes to a keyframe: to the last that is not behind that time, or with `forward`
+    /// to the first that is not before it.
     Seek {
         t: i64,
         absolute: bool,
         forward: bool,
     },
-    /// Sets a property to a text.
+    /// Sets a property to a text, as a client's `set` of that string.
     Set {
         name: Text,
         value: Text,
     },
-    /// Turns a property over.
+    /// Turns a flag over.
     Cycle {
         name: Text,
     },

@@ -9,9 +9,14 @@ use crate::scan::Scan;
 use mc_value::Words;
 use std::alloc::Global;
 
-/// The words of a line, which stand between spaces and tabs. A word that begins with `"` runs to the
-/// next `"`, with `\"` and `\\` for a quote and a backslash in it, and a space, a tab or the line's end
-/// must follow. `Bad` names the first word that is no word.
+/// The words of a line, after the flat command syntax in mpv's manual. Words stand between spaces and
+/// tabs. One that begins with `"` runs to the next `"`, with `\"` and `\\` for a quote and a backslash
+/// in it, and a space, a tab or the line's end must follow. All other characters stand for
+/// themselves. A line may have no word.
+///
+/// `Bad` names the first thing that is no word, by the number of the words before it: a quote that
+/// is not closed, or a quoted word with something behind it. `NoMemory` where there is none for the
+/// words.
 pub fn split_line(alloc: Global, line: &str) -> Result<Words, CommandError>
     ensures value { Parses result (line_words line.now) }
     // The words, or the number, are as the rules of quoting spell them in the line's characters.

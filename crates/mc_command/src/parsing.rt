@@ -1,9 +1,9 @@
 ghost use Rattle.mc_command.specs.Commands.{Found, Parses, cycle_command, flag_of, message_command, parsed, parsed_as, plain_command, seek_at, seek_command, seek_with, send_command, set_command, verb_of};
-ghost use Rattle.mc_command.specs.Table.{Means};
+ghost use Rattle.mc_command.specs.Table.{IsNear, Means};
 ghost use Rattle.mc_command.specs.declared.command.Command.{Command};
 ghost use Rattle.mc_command.specs.declared.command.Command.TheVariants.{Ignore, Quit};
 ghost use Rattle.mc_value.specs.Seconds.{seconds_of};
-ghost use Rattle.std.specs.Prelude.{Result, ◌≡◌, ℕ};
+ghost use Rattle.std.specs.Prelude.{IfOk, Result, ◌≡◌, ℕ};
 
 use crate::command::{Command, CommandError};
 use mc_value::{Text, Words, copy_words, parse_seconds};
@@ -21,15 +21,21 @@ pub enum Verb {
     Quit,
 }
 
-/// The command that words say: `seek SECONDS [FLAG [forward]]` with the flag `relative` (where none
-/// is given) or `absolute`, `set NAME VALUE`, `cycle NAME`, `script-message WORD...`,
-/// `script-message-to CLIENT WORD...`, `ignore` or `quit`. `Bad` for all other words.
+/// The command that words say, after the list of input commands in mpv's manual:
+/// `seek SECONDS [FLAG [forward]]` with the flag `relative` (where none is given) or `absolute`,
+/// `set NAME VALUE`, `cycle NAME`, `script-message WORD...`, `script-message-to CLIENT WORD...`,
+/// `ignore` or `quit`. Seconds are as `parse_seconds` reads them, so at most 2^62 nanoseconds on
+/// either side of 0.
+///
+/// `Bad` for any other words, with the number of the first wrong or missing one, the command's name
+/// being number 0. `NoMemory` where there is none for the texts of the command.
 pub fn parse_command(alloc: Global, words: &Words) -> Result<Command, CommandError>
     ensures value { Parses result (parsed words.now) }
     // The table has the command for the words, or they leave it at the word that is named.
     ensures meant { Found result (Means words.now) }
     // Nothing else is so.
     ensures only { (said : Result Command ℕ) → Means words.now said → Parses result said }
+    ensures near { IfOk result (λ command. IsNear command) }
 {
     parse_words(alloc, words.as_slice())
 }

@@ -5,6 +5,7 @@ use Rattle.mc_command.specs.declared.scan.Scan.{Scan}
 use Rattle.mc_command.specs.declared.scan.Place.{Place}
 use Rattle.mc_command.specs.declared.scan.Place.TheVariants.{Gap, Plain, Quoted, Escape, Closed, Broken}
 
+-- a space or a tab
 abbrev pub is_blank : ℕ → Bool
 is_blank c = c == 32 || c == 9
 

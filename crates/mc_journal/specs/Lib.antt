@@ -1,3 +1,12 @@
 pub mod Told
+pub mod Choices
+pub mod Films
+pub mod Ranges
 pub mod Readings
+pub mod Stands
+pub mod Views
 pub mod Legal
+pub mod Allowed
+pub mod Used
+pub mod WorkedFilms
+pub mod Worked

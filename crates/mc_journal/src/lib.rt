@@ -5,6 +5,8 @@
 //! fresh reading of the film.
 #![tactic(auto)]
 
+mod journals;
 mod record;
 
-pub use record::{DemuxJournal, DemuxRecord, gave};
+pub use journals::{forward_journals, worked_journals, wrong_journals};
+pub use record::{Cause, DemuxJournal, DemuxRecord, Removal, Sought, gave};

@@ -31,6 +31,14 @@ pub struct Starts {
     pub mark: Mark,
 }
 
+/// Which keyframe a seek asks for: `Back` the last one at or before its target, `Forward` the
+/// first one at or after it, as mpv's `seek` with `keyframes` does in either direction.
+#[derive(Clone, Copy, Debug, PartialEq, Eq)]
+pub enum Dir {
+    Back,
+    Forward,
+}
+
 /// Why a seek or a selection is refused.
 #[derive(Clone, Copy, Debug, PartialEq, Eq)]
 pub enum Why {

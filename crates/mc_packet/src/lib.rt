@@ -13,6 +13,6 @@ mod walk;
 
 pub use cache::{CacheView, Heads, Limits, RangeView, RangeViews, Spans, Status};
 pub use checksum::sum;
-pub use choice::{Choice, Kind, Starts, TrackNo, Why};
+pub use choice::{Choice, Dir, Kind, Starts, TrackNo, Why};
 pub use packet::{NoMemory, Packet, Packets, Pos, weight};
 pub use walk::{Chunk, Ending, Fault, Level, Mark};

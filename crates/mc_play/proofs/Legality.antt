@@ -24,33 +24,25 @@ use Rattle.mc_play.specs.declared.journal.Stop.TheVariants as stops
 use Rattle.mc_play.specs.Reading.{is_chosen, gave_to_reader, given_of, rising, told_to_reader, told_to_each, stopped_by, reading_of, StopFits, IsReading, LegalFor}
 use Rattle.mc_play.proofs.Onto.{onto, onto-append, reverse-is, reverse-append_onto}
 
-from_zero : (track : ℕ) (h : List DemuxRecord) → read_from track h ≡ 0
-from_zero track [] = refl
-from_zero track (Opened by set ∷ h) = refl
-from_zero track (Gave by n pos time len sum sync key ∷ h) = from_zero track h
-from_zero track (Ended by n ending ∷ h) = from_zero track h
-from_zero track (Failed by before after ∷ h) = from_zero track h
-from_zero track (Starved by ∷ h) = from_zero track h
-from_zero track (Faulted by n before after ∷ h) = from_zero track h
-from_zero track (Wanting by n ∷ h) = from_zero track h
-
-reading-is : (ps : List Told) (track : ℕ) (h : List DemuxRecord) → reading ps track h ≡ fresh track 0 ps
-reading-is ps track h = ap (λ (n : ℕ). fresh track n ps) (from_zero track h)
-
 fresh-append : (track : ℕ) (xs ys : List Packet) → fresh track 0 (map told (xs ++ ys)) ≡ fresh track 0 (map told xs) ++ fresh track 0 (map told ys)
 fresh-append track xs ys = ap (fresh track 0) (map-append told xs ys) ∙ filter-append (is_fresh track 0) (map told xs) (map told ys)
 
 -- the readers of the selected tracks were given just these packets
 record Holds (set : Choice) (before : List Packet) (h : List DemuxRecord) : Type 0 where
   chosen : selected h ≡ set
+  begun : (ps : List Told) (track : ℕ) → read_from ps track h ≡ 0
   all : (track : ℕ) → has set track ≡ true → given track h ≡ fresh track 0 (map told before)
+
+-- there was no seek, so each track is read from the film's start
+reading-is : (set : Choice) (before : List Packet) (ps : List Told) (track : ℕ) (h : List DemuxRecord) → Holds set before h → reading ps track h ≡ fresh track 0 ps
+reading-is set before ps track h holds = ap (λ (n : ℕ). fresh track n ps) (holds.begun ps track)
 
 fronts : (set : Choice) (ps before after : List Packet) (h : List DemuxRecord) → before ++ after ≡ ps → Holds set before h → GaveFronts (map told ps) h
 fronts set ps before after h parts holds = λ track is.
     let mine : has set track ≡ true = let P : Choice → Type 0 = λ c. has c track ≡ true in subst P holds.chosen is in (
       fresh track 0 (map told after),
       ap (λ (x : List Told). x ++ fresh track 0 (map told after)) (holds.all track mine) ∙ sym (fresh-append track before after)
-          ∙ ap (λ (x : List Packet). fresh track 0 (map told x)) parts ∙ sym (reading-is (map told ps) track h),
+          ∙ ap (λ (x : List Packet). fresh track 0 (map told x)) parts ∙ sym (reading-is set before (map told ps) track h holds),
     )
 
 -- ---- packets
@@ -66,6 +58,7 @@ added track p xs false = sym (append-nil xs)
 gives : (set : Choice) (before : List Packet) (p : Packet) (h : List DemuxRecord) → Holds set before h → Holds set (before ++ p ∷ []) (gave_to_reader set p ∷ h)
 gives set before p h holds = record {
   chosen = holds.chosen;
+  begun = holds.begun;
   all = λ track mine.
       added track p (given track h) (p.track == track)
       ∙ ap (λ (x : List Told). x ++ cond (p.track == track) (told p ∷ []) []) (holds.all track mine)
@@ -84,6 +77,7 @@ other set p track isnt is =
 passes : (set : Choice) (before : List Packet) (p : Packet) (h : List DemuxRecord) → has set p.track ≡ false → Holds set before h → Holds set (before ++ p ∷ []) h
 passes set before p h isnt holds = record {
   chosen = holds.chosen;
+  begun = holds.begun;
   all = λ track mine.
       holds.all track mine ∙ sym (append-nil (fresh track 0 (map told before)))
       ∙ ap (λ (x : List Told). fresh track 0 (map told before) ++ x) (sym (one-fresh track p false (other set p.track track isnt mine)))
@@ -126,9 +120,9 @@ all_ended : (set : Choice) (ps : List Packet) (ending : Ending) (tracks : List �
 all_ended set ps ending [] h are r = r
 all_ended set ps ending (track ∷ tracks) h are r =
     let ended = told_to_reader set (stops.Ended ending) track in
-    let holds : Holds set ps (ended ∷ h) = record { chosen = r.holds.chosen; all = r.holds.all } in
+    let holds : Holds set ps (ended ∷ h) = record { chosen = r.holds.chosen; begun = r.holds.begun; all = r.holds.all } in
     let mine : has (selected h) track ≡ true = let P : Choice → Type 0 = λ c. has c track ≡ true in subst P (sym r.holds.chosen) are.0 in
-    let whole : given track h ≡ reading (map told ps) track h = r.holds.all track are.0 ∙ sym (reading-is (map told ps) track h) in
+    let whole : given track h ≡ reading (map told ps) track h = r.holds.all track are.0 ∙ sym (reading-is set ps (map told ps) track h r.holds) in
     let legal : IsLegal (map told ps) ending (ended ∷ h) = (fronts set ps ps [] (ended ∷ h) (append-nil ps) holds, (mine, whole, refl), r.legal) in
     all_ended set ps ending tracks (ended ∷ h) are.1 (record { holds = holds; legal = legal })
 
@@ -161,7 +155,7 @@ failed_told : (set : Choice) (ps before left : List Packet) (ending : Ending) (b
 failed_told set ps before left ending b a [] h parts r = r
 failed_told set ps before left ending b a (track ∷ tracks) h parts r =
     let next : List DemuxRecord = told_to_reader set (stops.Failed b a) track ∷ h in
-    let holds : Holds set before next = record { chosen = r.holds.chosen; all = r.holds.all } in
+    let holds : Holds set before next = record { chosen = r.holds.chosen; begun = r.holds.begun; all = r.holds.all } in
     let legal : IsLegal (map told ps) ending next = (fronts set ps before left next parts holds, tt, r.legal) in
     failed_told set ps before left ending b a tracks next parts (record { holds = holds; legal = legal })
 
@@ -170,7 +164,7 @@ wanting_told : (set : Choice) (ps before left : List Packet) (ending : Ending) (
 wanting_told set ps before left ending [] h parts r = r
 wanting_told set ps before left ending (track ∷ tracks) h parts r =
     let next : List DemuxRecord = told_to_reader set stops.Starved track ∷ h in
-    let holds : Holds set before next = record { chosen = r.holds.chosen; all = r.holds.all } in
+    let holds : Holds set before next = record { chosen = r.holds.chosen; begun = r.holds.begun; all = r.holds.all } in
     let legal : IsLegal (map told ps) ending next = (fronts set ps before left next parts holds, tt, r.legal) in
     wanting_told set ps before left ending tracks next parts (record { holds = holds; legal = legal })
 
@@ -178,7 +172,7 @@ wanting_told set ps before left ending (track ∷ tracks) h parts r =
 
 is_opened : (set : Choice) (ps : List Packet) (ending : Ending) → Read set ps [] ending (Opened 0 set ∷ [])
 is_opened set ps ending =
-    let holds : Holds set [] (Opened 0 set ∷ []) = record { chosen = refl; all = λ track mine. refl } in
+    let holds : Holds set [] (Opened 0 set ∷ []) = record { chosen = refl; begun = λ ps track. refl; all = λ track mine. refl } in
     let nobody : GaveFronts (map told ps) [] = λ track is. absurd (let f : false ≡ true = is in cc) in
     record { holds = holds; legal = (fronts set ps [] ps (Opened 0 set ∷ []) refl holds, tt, nobody) }
 
@@ -193,12 +187,12 @@ stop_told film set given left before now (stops.Ended ending) h parts fits r =
     subst Q (sym fits.1) (subst P (sym all) ended)
 stop_told film set given left before now (stops.Failed b a) h parts fits r =
     let next : List DemuxRecord = Failed 5 b a ∷ h in
-    let holds : Holds set given next = record { chosen = r.holds.chosen; all = r.holds.all } in
+    let holds : Holds set given next = record { chosen = r.holds.chosen; begun = r.holds.begun; all = r.holds.all } in
     let legal : IsLegal (map told film.packets) film.ending next = (fronts set film.packets given left next parts holds, tt, r.legal) in
     failed_told set film.packets given left film.ending b a (rising set.video set.audio) next parts (record { holds = holds; legal = legal })
 stop_told film set given left before now stops.Starved h parts fits r =
     let next : List DemuxRecord = Starved 5 ∷ h in
-    let holds : Holds set given next = record { chosen = r.holds.chosen; all = r.holds.all } in
+    let holds : Holds set given next = record { chosen = r.holds.chosen; begun = r.holds.begun; all = r.holds.all } in
     let legal : IsLegal (map told film.packets) film.ending next = (fronts set film.packets given left next parts holds, tt, r.legal) in
     wanting_told set film.packets given left film.ending (rising set.video set.audio) next parts (record { holds = holds; legal = legal })
 

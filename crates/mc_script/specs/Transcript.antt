@@ -1,20 +1,17 @@
 -- The text of a journal: one line for each record, the oldest first.
 use Rattle.std.specs.Prelude.{ℕ, ℤ, Bool, if◌then◌else◌, List, [], ◌∷◌, ◌++◌, codes, decimal}
 use Rattle.std.specs.Fmt.{signed_decimal}
-use Rattle.std.specs.List.{flat_map}
 use Rattle.mc_packet.specs.declared.walk.Ending.{Ending}
 use Rattle.mc_packet.specs.declared.walk.Ending.TheVariants.{Clean, Cut, Damaged}
 use Rattle.mc_packet.specs.declared.walk.Fault.{Fault}
 use Rattle.mc_packet.specs.declared.walk.Fault.TheVariants as faults
 use Rattle.mc_packet.specs.declared.packet.Pos.{Pos}
+use Rattle.mc_packet.specs.declared.choice.Choice.{Choice}
 use Rattle.mc_journal.specs.declared.record.DemuxRecord.{DemuxRecord}
-use Rattle.mc_journal.specs.declared.record.DemuxRecord.TheVariants.{Opened, Failed, Starved, Gave, Ended, Faulted, Wanting}
-
--- parts of a text, one after the other
-abbrev pub joined : List (List ℕ) → List ℕ
-joined [] = []
-joined (x ∷ []) = x
-joined (x ∷ y ∷ ys) = x ++ joined (y ∷ ys)
+use Rattle.mc_journal.specs.declared.record.DemuxRecord.TheVariants.{Opened, Sought, Switched, Found, Fed, Failed, Starved, Dropped, Joined, Gave, Ended, Overfull, Faulted, Wanting, Shown, Refused}
+use Rattle.mc_journal.specs.Choices.{nothing}
+use Rattle.mc_script.specs.Text.{joined}
+use Rattle.mc_script.specs.CacheText.{answer_text, seek_text, switch_text, drop_text, overfull_text, view_text, refused_text}
 
 -- a frame that starts decoding, another one of a keyframe block, or any other
 abbrev pub mark_text : Bool → Bool → List ℕ
@@ -59,15 +56,36 @@ fault_line track before after = joined (codes "fault " ∷ decimal track ∷ cod
 abbrev pub wanting_text : ℕ → List ℕ
 wanting_text track = joined (codes "wanting " ∷ decimal track ∷ codes "\n" ∷ [])
 
--- the line of a record, or nothing
-abbrev pub line : DemuxRecord → List ℕ
-line (Opened by set) = []
-line (Gave by track pos time len sum sync key) = place_text track pos time ++ payload_text len sum (mark_text sync key)
-line (Ended by track ending) = track_end_text track ++ ending_text ending
-line (Failed by before after) = failed_text before after
-line (Starved by) = codes "starved\n"
-line (Faulted by track before after) = fault_line track before after
-line (Wanting by track) = wanting_text track
+-- the selected tracks behind a record, of those before it
+abbrev pub set_after : Choice → DemuxRecord → Choice
+set_after set (Opened by chosen) = chosen
+set_after set (Sought by chosen t dir how) = chosen
+set_after set (Switched by chosen added t) = chosen
+set_after set _ = set
+
+-- the lines of a record, or nothing, where these tracks are selected
+abbrev pub line : Choice → DemuxRecord → List ℕ
+line set (Opened by chosen) = []
+line set (Sought by chosen t dir how) = seek_text t (answer_text dir how)
+line set (Switched by chosen added t) = switch_text chosen t
+line set (Found by starts) = []
+line set (Fed by from to took ending) = []
+line set (Dropped by removal) = drop_text removal.track removal.from removal.to removal.cause
+line set (Joined by) = codes "join\n"
+line set (Gave by track pos time len sum sync key) = place_text track pos time ++ payload_text len sum (mark_text sync key)
+line set (Ended by track ending) = track_end_text track ++ ending_text ending
+line set (Failed by before after) = failed_text before after
+line set (Starved by) = codes "starved\n"
+line set (Overfull by track forward max) = overfull_text track forward max
+line set (Faulted by track before after) = fault_line track before after
+line set (Wanting by track) = wanting_text track
+line set (Shown by view) = view_text set view
+line set (Refused by why) = refused_text why
+
+-- the lines of records behind which these tracks were selected
+abbrev pub lines_from : Choice → List DemuxRecord → List ℕ
+lines_from set [] = []
+lines_from set (r ∷ rs) = line set r ++ lines_from (set_after set r) rs
 
 abbrev pub transcript : List DemuxRecord → List ℕ
-transcript h = flat_map line h
+transcript h = lines_from nothing h

@@ -3,6 +3,7 @@
 //! record (`specs/Transcript`), and a status for each way to end.
 #![tactic(auto)]
 
+mod cache_text;
 mod exit;
 mod transcript;
 mod words;

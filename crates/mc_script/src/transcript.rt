@@ -1,8 +1,12 @@
 ghost use Rattle.std.specs.Prelude.{◌≡◌, string_bytes, IfOk, OnOk, [], ◌∷◌, ◌++◌, codes, decimal};
-ghost use Rattle.mc_script.specs.Transcript.{joined, place_text, payload_text, fault_text, ending_text, track_end_text, failed_text, fault_line, wanting_text, line, mark_text, transcript};
+ghost use Rattle.mc_script.specs.Text.{joined};
+ghost use Rattle.mc_script.specs.Transcript.{set_after, place_text, payload_text, fault_text, ending_text, track_end_text, failed_text, fault_line, wanting_text, line, mark_text, transcript};
 
+use crate::cache_text::{
+    push_drop, push_overfull, push_refused, push_seek, push_switch, push_view,
+};
 use mc_journal::{DemuxJournal, DemuxRecord};
-use mc_packet::{Ending, Fault, NoMemory, Pos};
+use mc_packet::{Choice, Ending, Fault, NoMemory, Pos};
 use mc_value::Text;
 use std::alloc::Global;
 
@@ -96,12 +100,56 @@ fn push_wanting(text: &mut String, track: u64) -> Result<(), NoMemory>
     write!(text, "wanting {track}\n")
 }
 
-// Adds the line of a record.
-fn push_line(text: &mut String, entry: &DemuxRecord) -> Result<(), NoMemory>
-    ensures { OnOk result (string_bytes text.new ≡ string_bytes text.old ++ line entry.now) }
+// The selected tracks behind a record, of those before it.
+fn select(set: Choice, entry: &DemuxRecord) -> Choice
+    ensures { result ≡ set_after set entry.now }
+{
+    match *entry {
+        DemuxRecord::Opened { set: chosen, .. } => chosen,
+        DemuxRecord::Sought { set: chosen, .. } => chosen,
+        DemuxRecord::Switched { set: chosen, .. } => chosen,
+        _ => set,
+    }
+}
+
+// Adds the line of a packet that was given.
+fn push_gave(
+    text: &mut String,
+    track: u64,
+    pos: Pos,
+    time: i64,
+    payload: (u64, u32),
+    mark: &str,
+) -> Result<(), NoMemory>
+    ensures { OnOk result (string_bytes text.new ≡ string_bytes text.old ++ (place_text track pos time ++ payload_text payload.0 payload.1 mark.now)) }
+{
+    let (len, sum) = payload;
+    push_place(text, track, pos, time)?;
+    push_payload(text, len, sum, mark)
+}
+
+// Adds the line of a reader's end.
+fn push_ended(text: &mut String, track: u64, ending: Ending) -> Result<(), NoMemory>
+    ensures { OnOk result (string_bytes text.new ≡ string_bytes text.old ++ (track_end_text track ++ ending_text ending)) }
+{
+    push_track_end(text, track)?;
+    push_ending(text, ending)
+}
+
+// Adds the line of a record; these tracks are selected before it.
+fn push_line(text: &mut String, set: Choice, entry: &DemuxRecord) -> Result<(), NoMemory>
+    ensures { OnOk result (string_bytes text.new ≡ string_bytes text.old ++ line set entry.now) }
 {
     match *entry {
         DemuxRecord::Opened { .. } => Ok(()),
+        DemuxRecord::Sought { t, dir, how, .. } => push_seek(text, t, dir, how),
+        DemuxRecord::Switched { set, at, .. } => push_switch(text, set, at),
+        DemuxRecord::Found { .. } => Ok(()),
+        DemuxRecord::Fed { .. } => Ok(()),
+        DemuxRecord::Failed { before, after, .. } => push_failed(text, before, after),
+        DemuxRecord::Starved { .. } => text.push_str("starved\n"),
+        DemuxRecord::Dropped { drop, .. } => push_drop(text, drop),
+        DemuxRecord::Joined { .. } => text.push_str("join\n"),
         DemuxRecord::Gave {
             track,
             pos,
@@ -111,16 +159,14 @@ fn push_line(text: &mut String, entry: &DemuxRecord) -> Result<(), NoMemory>
             sync,
             key,
             ..
-        } => {
-            push_place(text, track, pos, time)?;
-            push_payload(text, len, sum, mark_name(sync, key))
-        }
-        DemuxRecord::Ended { track, ending, .. } => {
-            push_track_end(text, track)?;
-            push_ending(text, ending)
-        }
-        DemuxRecord::Failed { before, after, .. } => push_failed(text, before, after),
-        DemuxRecord::Starved { .. } => text.push_str("starved\n"),
+        } => push_gave(text, track, pos, time, (len, sum), mark_name(sync, key)),
+        DemuxRecord::Ended { track, ending, .. } => push_ended(text, track, ending),
+        DemuxRecord::Overfull {
+            track,
+            forward,
+            max,
+            ..
+        } => push_overfull(text, track, forward, max),
         DemuxRecord::Faulted {
             track,
             before,
@@ -128,16 +174,25 @@ fn push_line(text: &mut String, entry: &DemuxRecord) -> Result<(), NoMemory>
             ..
         } => push_fault(text, track, before, after),
         DemuxRecord::Wanting { track, .. } => push_wanting(text, track),
+        DemuxRecord::Shown { ref view, .. } => push_view(text, set, view),
+        DemuxRecord::Refused { why, .. } => push_refused(text, why),
     }
 }
 
-/// The text of a demuxer's journal: for each record its line, ended by LF, or nothing.
+/// The text of a demuxer's journal: for each record its lines, each ended by LF, or nothing. A
+/// look at the cache is told with the tracks that are selected there.
 pub fn demux_text(alloc: Global, h: &DemuxJournal) -> Result<Text, NoMemory>
     ensures { IfOk result (λ s. s ≡ transcript h.now) }
 {
     let mut text = String::new(alloc);
+    let mut set = Choice {
+        video: None,
+        audio: None,
+        sub: None,
+    };
     for entry in h.as_slice() {
-        push_line(&mut text, entry)?;
+        push_line(&mut text, set, entry)?;
+        set = select(set, entry);
     }
     Ok(Text::from_string(text))
 }

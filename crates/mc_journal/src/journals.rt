@@ -1,0 +1,42 @@
+//! Journals of two films, worked out by hand, on which the definitions are seen to say what the
+//! rules say.
+ghost use Rattle.std.specs.Prelude.{◌≡◌, true, false};
+ghost use Rattle.mc_journal.specs.Views.{is_idle};
+ghost use Rattle.mc_journal.specs.Used.{IsUsed};
+ghost use Rattle.mc_journal.specs.WorkedFilms.{one, two, one_packets};
+ghost use Rattle.mc_journal.specs.Worked.{usual, none_behind, one_ahead, drained, sent, joined, drained_twice, before_the_start, two_ranges, dropped, overfull, switched, drained_forward, forward_to_last, forward_sent, forward_at, too_early, too_late, skips, ends_early, unjoined};
+
+/// Each worked journal is used: reading to the end, seeks that are sent and seeks that are served,
+/// joins, drops and full caches, and a switch.
+pub fn worked_journals()
+    ensures drained { IsUsed one usual drained }
+    ensures sent { IsUsed one usual sent }
+    ensures joined { IsUsed one usual joined }
+    ensures drained_twice { IsUsed one usual drained_twice }
+    ensures before_the_start { IsUsed one usual before_the_start }
+    ensures two_ranges { IsUsed one usual two_ranges }
+    ensures dropped { IsUsed one none_behind dropped }
+    ensures overfull { IsUsed one one_ahead overfull }
+    ensures switched { IsUsed two usual switched }
+    ensures idle { is_idle one_packets usual two_ranges ≡ true }
+    ensures busy { is_idle one_packets usual joined ≡ false }
+{}
+
+/// So are those with a seek forward.
+pub fn forward_journals()
+    ensures past { IsUsed one usual drained_forward }
+    ensures to_last { IsUsed one usual forward_to_last }
+    ensures sent { IsUsed one usual forward_sent }
+    ensures at { IsUsed one usual forward_at }
+{}
+
+/// Wrong journals are not: a seek back served though a later keyframe may be unread, one forward
+/// served though an earlier one may be, a packet left out, an end before the last packet, a join
+/// left out.
+pub fn wrong_journals()
+    ensures early { IsUsed one usual too_early → ⊥ }
+    ensures late { IsUsed one usual too_late → ⊥ }
+    ensures skips { IsUsed one usual skips → ⊥ }
+    ensures ends { IsUsed one usual ends_early → ⊥ }
+    ensures unjoined { IsUsed one usual unjoined → ⊥ }
+{}

@@ -66,11 +66,13 @@ pub has_first : (P : Request → Bool) (n m : ℕ) (whole : Parts) (queue gone :
 has_first P n m whole [] gone room k h = absurd (let l : n ≤ 0 = h.long in omega arith)
 has_first P n m whole (r ∷ rs) gone room k h =
     let g : Parting P (suc m) whole (r ∷ rs) gone room = subst (λ i. Parting P i whole (r ∷ rs) gone room) k h in
-    let s = g.space in
-    (omega arith, elim (cases_Bool (P r)) [
-      | inl y ↦ let t : length gone + suc (length (filter P (take m rs))) ≤ room = rw y at s in rw y (omega arith)
-      | inr y ↦ let t : length gone + length (filter P (take m rs)) ≤ room = rw y at s in rw y (omega arith)
-    ])
+    let s = g.space in (
+      omega arith,
+      elim (cases_Bool (P r)) [
+        | inl y ↦ let t : length gone + suc (length (filter P (take m rs))) ≤ room = rw y at s in rw y (omega arith)
+        | inr y ↦ let t : length gone + length (filter P (take m rs)) ≤ room = rw y at s in rw y (omega arith)
+      ],
+    )
 
 pub ends : (P : Request → Bool) (n : ℕ) (xs gone queue gone' : List Request) (room : ℕ) → n ≡ 0 → Parting P n (turn P (length xs) (xs, gone)) queue gone' room
     → (queue ≡ without P xs) × (gone' ≡ gone ++ filter P xs)

@@ -14,19 +14,33 @@ pub enum Event {
     Shutdown,
     /// The reply to a request for a property: the request's number, an error of `client.h` or 0,
     /// and the value.
-    GetReply { id: u64, error: i32, value: Value },
+    GetReply {
+        id: u64,
+        error: i32,
+        value: Value,
+    },
     /// The reply to a request that sets a property.
-    SetReply { id: u64, error: i32 },
+    SetReply {
+        id: u64,
+        error: i32,
+    },
     /// The reply to a command.
-    CommandReply { id: u64, error: i32 },
+    CommandReply {
+        id: u64,
+        error: i32,
+    },
     /// A file is about to be opened.
     StartFile,
     /// A file has ended, for a reason of `client.h`: 0 at its end, 2 stopped, 3 quit, 4 by an error.
-    EndFile { reason: u32 },
+    EndFile {
+        reason: u32,
+    },
     /// A file was opened.
     FileLoaded,
     /// A message from a client.
-    Message { words: Words },
+    Message {
+        words: Words,
+    },
     /// A seek was begun.
     Seek,
     /// Reading begins anew, behind a seek or an opening.

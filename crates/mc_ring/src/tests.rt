@@ -54,12 +54,18 @@ fn life_of_a_ring(rt: HostRuntime) -> Result<(), RingError> {
 fn sizes(rt: HostRuntime) -> Result<(), RingError> {
     let alloc = rt.alloc();
     for size in [0, 100_001, u32::MAX] {
-        assert!(rt; matches!(Ring::new(alloc, size), Err(RingError::BadSize)), "{size}");
+        assert!(rt;
+            matches!(Ring::new(alloc, size), Err(RingError::BadSize)),
+            "{size}"
+        );
     }
     for size in [1, 2, 100_000] {
         let mut ring = Ring::new(alloc, size)?;
         for _ in 0..size {
-            assert!(rt; matches!(ring.push_event(Event::Seek), Pushed::Kept), "of {size}");
+            assert!(rt;
+                matches!(ring.push_event(Event::Seek), Pushed::Kept),
+                "of {size}"
+            );
         }
         assert_eq!(rt; number(ring.push_event(Event::Shutdown)), 101, "of {size}");
     }
@@ -74,8 +80,18 @@ fn calls_as_data(rt: HostRuntime) -> Result<(), RingError> {
     let pushed = ring.apply(RingCall::PushEvent(Event::Seek));
     assert!(rt; matches!(pushed, RingAnswer::PushedEvent(Pushed::Kept)));
     assert!(rt; matches!(ring.apply(RingCall::Reserve), RingAnswer::Refused(_)));
-    assert!(rt; matches!(ring.apply(RingCall::TakeOverflow), RingAnswer::TookOverflow(false)));
-    assert!(rt; matches!(ring.apply(RingCall::Pop), RingAnswer::Popped(Some(Event::Seek))));
+    assert!(rt;
+        matches!(
+            ring.apply(RingCall::TakeOverflow),
+            RingAnswer::TookOverflow(false)
+        )
+    );
+    assert!(rt;
+        matches!(
+            ring.apply(RingCall::Pop),
+            RingAnswer::Popped(Some(Event::Seek))
+        )
+    );
     Ok(())
 }
 

@@ -2,7 +2,7 @@
 # Times `mcplay run FILM` beside other readers of the same films, each as a ratio to `cat`, and
 # their peak memory; and counts mcplay's system calls, where strace is at hand. Usage:
 # bench/run.sh [FILM...]; without a film it makes two with ffmpeg in bench/films: one of about
-# 200 MB with large packets, and one of about 1 GB with 517,500 small ones. Tools that are missing
+# 200 MB with large packets, and one of about 1.5 GB with 517,500 small ones. Tools that are missing
 # are skipped.
 cd "$(dirname "$0")/.." || exit 1
 program=crates/mcplay/out/mcplay
@@ -27,7 +27,7 @@ make_film() {
 
 films=("$@")
 if [ ${#films[@]} -eq 0 ]; then
-    films=(bench/films/about-200MB.mkv bench/films/about-1GB.mkv)
+    films=(bench/films/about-200MB.mkv bench/films/about-1500MB.mkv)
     for film in "${films[@]}"; do make_film "$film"; done
 fi
 

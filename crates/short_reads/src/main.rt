@@ -15,7 +15,7 @@ use std::{env, fs, io};
 const USAGE: &str = "usage: short_reads OCTETS FILM, where OCTETS is the most that a read gives\n";
 
 // A shelf that holds the film alone, under its own name.
-fn shelf_of<R: Files>(
+fn shelf_of<R: Files + Alloc>(
     rt: &R,
     alloc: Global,
     most: usize,

@@ -3,7 +3,7 @@ use Rattle.std.proofs.Common.{◌≡◌, ℕ, zero, suc, ◌+◌, ◌-◌, ◌<�
 use Rattle.std.proofs.lemmas.List.{take-take, drop-take, take_all}
 use Rattle.std.proofs.lemmas.Bool.{cond_both}
 use Rattle.std.proofs.lemmas.Bool.Decides.{nat_tests}
-use Rattle.std.specs.Prelude.{nat_le, ◌==◌, slice_range, if◌then◌else◌}
+use Rattle.std.specs.Prelude.{IfOk, nat_le, ◌==◌, slice_range, if◌then◌else◌}
 use Rattle.mc_ebml.specs.declared.read.Head.{Head}
 use Rattle.mc_ebml.specs.declared.read.Size.{Size}
 use Rattle.mc_ebml.specs.declared.read.Size.TheVariants.{Known, Unknown}
@@ -19,8 +19,9 @@ use Rattle.mc_tracks.specs.Header.{body_of, as_header, header_checked, ebml_head
 use Rattle.mc_tracks.specs.Ids.{EBML_HEADER}
 use Rattle.mc_cursor.specs.declared.reading.Found.{Found}
 use Rattle.mc_cursor.specs.declared.reading.Found.TheVariants as found
-use Rattle.mc_cursor.specs.Reads.{found_at, found_by, moved_by}
-use Rattle.mc_cursor.specs.Begins.{header_span, stop_of}
+use Rattle.mc_cursor.specs.Reads.{found_at, found_by, moved_by, Told}
+use Rattle.mc_cursor.specs.Begins.{header_span, stop_of, Gives}
+use Rattle.mc_cursor.specs.declared.error.OpenError.{OpenError}
 use Rattle.mc_cursor.proofs.Heads.{head_window}
 
 take_front : (k m : ℕ) (octets : List ℕ) → k ≤ m → take k (take m octets) ≡ take k octets
@@ -100,3 +101,40 @@ header_front octets m span = by_place octets m (0 == length octets) refl span
 
 pub header_read : (octets bytes : List ℕ) (m : ℕ) (f : Found) → m ≡ header_span f → f ≡ found_at octets 0 → bytes ≡ take m octets → ebml_header_of bytes ≡ ebml_header_of octets
 header_read octets bytes m f span at_start read = ap ebml_header_of read ∙ header_front octets m (span ∙ ap header_span at_start)
+
+-- ---- how far it reaches
+
+checked_stop : (checked : Result (Unit {0}) Refused) (stop at : ℕ) → checked >>= (λ _. Ok stop) ≡ Ok at → at ≡ stop
+checked_stop (Ok x) stop at gives = cc gives
+checked_stop (Err e) stop at gives = absurd (cc gives)
+
+span_whole : (octets : List ℕ) (len at : ℕ) (h : Head) (size : ℕ) (whole is : Bool) → h.size ≡ Known size → nat_le (h.body + size) len ≡ whole → h.id == EBML_HEADER ≡ is
+    → header_by octets len (Ok h) ≡ Ok at → header_span (found_by (Ok h)) ≤ max 12 at
+span_whole octets len at h size true true sized whole is gives =
+    let c : Child = record { id = h.id; place = 0; at = h.body; stop = h.body + size } in
+    let e : header_at octets c ≡ Ok at = rw (sized, whole, is) at gives in
+    let stop : at ≡ h.body + size = checked_stop (header_checked (body_of octets c) (children_of EbmlHeader (body_of octets c))) (h.body + size) at e in
+    rw (is, sized) (omega (arith, stop))
+span_whole octets len at h size false true sized cut is gives = let e : Err NotEbml ≡ Ok at = rw (sized, cut) at gives in absurd (cc e)
+span_whole octets len at h size whole false sized w isnt gives = rw isnt (omega arith)
+
+span_sized : (octets : List ℕ) (len at : ℕ) (h : Head) (size : Size) → h.size ≡ size → header_by octets len (Ok h) ≡ Ok at → header_span (found_by (Ok h)) ≤ max 12 at
+span_sized octets len at h Unknown sized gives = let e : Err NotEbml ≡ Ok at = rw sized at gives in absurd (cc e)
+span_sized octets len at h (Known size) sized gives = span_whole octets len at h size (nat_le (h.body + size) len) (h.id == EBML_HEADER) sized refl refl gives
+
+span_headed : (octets : List ℕ) (len at : ℕ) (head : Result Head EbmlError) → header_by octets len head ≡ Ok at → header_span (found_by head) ≤ max 12 at
+span_headed octets len at (Err e) gives = omega arith
+span_headed octets len at (Ok h) gives = span_sized octets len at h h.size refl gives
+
+span_within : (octets : List ℕ) (at : ℕ) → ebml_header_of octets ≡ Ok at → header_span (found_at octets 0) ≤ max 12 at
+span_within octets at gives =
+    cond_both (0 == length octets) _ _ (λ f. header_span f ≤ max 12 at) (λ e. omega arith)
+    (λ e. span_headed octets (length octets) at (head_at octets 0) (sym (header_join octets) ∙ gives))
+
+-- reading it asks for no more than 12 octets, or for its own
+pub header_near : (c : Option (List ℕ)) (result : Result ℕ OpenError) (f : Found) (span before between now : ℕ) → Told c (λ octets. Gives result (ebml_header_of octets)) → Told c (λ octets. f ≡ found_at octets 0)
+    → between ≤ max before 12 → span ≡ header_span f → now ≤ max between span → IfOk result (λ n. Told c (λ octets. now ≤ max before (max 12 n)))
+header_near c (Err e) f span before between now gives is first size second = tt
+header_near c (Ok n) f span before between now gives is first size second = λ octets told.
+    let short : header_span f ≤ max 12 n = rw (is octets told) (span_within octets n (gives octets told)) in
+    omega (arith, first, size, second, short)

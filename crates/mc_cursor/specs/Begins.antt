@@ -1,5 +1,5 @@
 -- What a film opens with, read on demand.
-use Rattle.std.specs.Prelude.{◌≡◌, ℕ, ◌+◌, ◌<◌, ◌≤◌, max, ◌==◌, if◌then◌else◌, List, length, Option, Some, None, Result, Ok, Err, IsErrOf, ⊤}
+use Rattle.std.specs.Prelude.{◌≡◌, ℕ, ◌+◌, ◌<◌, ◌≤◌, max, ◌==◌, if◌then◌else◌, List, length, Option, Some, None, IfSome, Result, Ok, Err, IsErrOf, ⊤}
 use Rattle.mc_ebml.specs.declared.read.Head.{Head}
 use Rattle.mc_ebml.specs.declared.read.Size.{Size}
 use Rattle.mc_ebml.specs.declared.read.Size.TheVariants.{Known, Unknown}
@@ -9,8 +9,9 @@ use Rattle.mc_tracks.specs.declared.refused.TracksError.{TracksError}
 use Rattle.mc_tracks.specs.declared.refused.TracksError.TheVariants as causes
 use Rattle.mc_tracks.specs.declared.children.Child.{Child}
 use Rattle.mc_tracks.specs.Children.{whole_element}
-use Rattle.mc_tracks.specs.Ids.{EBML_HEADER}
-use Rattle.mc_walk.specs.Opening.{opened_film}
+use Rattle.mc_tracks.specs.Ids.{EBML_HEADER, INFO, TRACKS}
+use Rattle.mc_walk.specs.declared.plan.Segment.{Segment}
+use Rattle.mc_walk.specs.Opening.{opened_film, first_child}
 use Rattle.mc_cursor.specs.declared.cursor.Cursor.{Cursor}
 use Rattle.mc_cursor.specs.declared.error.CursorError.{CursorError}
 use Rattle.mc_cursor.specs.declared.error.CursorError.TheVariants as failures
@@ -74,3 +75,20 @@ abbrev pub head_in : Found → Option Head
 head_in found.End = None
 head_in (found.Bad e) = None
 head_in (found.Element h) = Some h
+
+-- ---- how far what a film opens with is read
+
+abbrev pub stop_by : Option Child → ℕ
+stop_by None = 0
+stop_by (Some c) = c.stop
+
+-- the end of Info and that of Tracks, whichever is later
+abbrev pub header_end : List ℕ → Segment → ℕ
+header_end octets segment = max (stop_by (first_child octets segment INFO)) (stop_by (first_child octets segment TRACKS))
+
+abbrev pub segment_for : Cursor → Segment
+segment_for c = record { opening = c.opening; end = c.segment_end }
+
+-- reads up to an element that was found go at most 12 octets behind it
+abbrev pub ReadsUnder : ℕ → ℕ → Option Child → Type 0
+ReadsUnder before now found = IfSome found (λ c. now ≤ max before (c.stop + 12))

@@ -1,4 +1,4 @@
-ghost use Rattle.std.specs.Prelude.{◌≡◌, ◌+◌, ◌-◌, ◌^◌, ◌<◌, ◌≤◌, max, length, slice_range, Option, Some, Ok, IsErrOf, IfOk, IfSome};
+ghost use Rattle.std.specs.Prelude.{◌≡◌, ◌≢◌, ◌+◌, ◌-◌, ◌^◌, ◌<◌, ◌≤◌, max, length, slice_range, Option, Some, None, Ok, IsErrOf, IfOk, IfSome};
 ghost use Rattle.mc_ebml.specs.Element.{IsSmall};
 ghost use Rattle.mc_outside.specs.Causes.{HasCause};
 ghost use Rattle.mc_outside.specs.Shelf.{content};
@@ -12,7 +12,7 @@ ghost use Rattle.mc_walk.specs.Walk.{stands_at};
 ghost use Rattle.mc_cursor.specs.Standing.{mark_of, file_of};
 ghost use Rattle.mc_cursor.specs.Causes.{Keeps};
 ghost use Rattle.mc_cursor.specs.Reads.{Told, Lies, found_at};
-ghost use Rattle.mc_cursor.specs.Begins.{BeginCause, Begins, Gives, header_span, stop_of, FoundIn, head_in, whole_found};
+ghost use Rattle.mc_cursor.specs.Begins.{BeginCause, Begins, Gives, header_span, stop_of, FoundIn, head_in, whole_found, stop_by, header_end, segment_for, ReadsUnder};
 
 use crate::cursor::Cursor;
 use crate::error::OpenError;
@@ -60,6 +60,7 @@ pub(crate) fn read_ebml_header<S: Shelf>(
 ) -> Result<usize, OpenError>
     ensures value { Told (content (S.files shelf.old) (S.opened shelf.old) file.0) (λ octets. Gives result (ebml_header_of octets)) }
     ensures within { Told (content (S.files shelf.old) (S.opened shelf.old) file.0) (λ octets. IfOk result (λ n. n ≤ length octets)) }
+    ensures near { IfOk result (λ n. Told (content (S.files shelf.old) (S.opened shelf.old) file.0) (λ octets. S.reach shelf.new ≤ max (S.reach shelf.old) (max 12 n))) }
     ensures cause { BeginCause (S.faults shelf.old) (S.faults shelf.new) result }
     ensures kept { Keeps (S.files shelf.old) (S.files shelf.new) (S.opened shelf.old) (S.opened shelf.new) (S.reach shelf.old) (S.reach shelf.new) }
 {
@@ -90,6 +91,7 @@ fn read_whole<S: Shelf>(
     requires { Lies place (found.Element head) }
     ensures value { IfOk result (λ c. Told (content (S.files shelf.old) (S.opened shelf.old) file.0) (λ octets. head.body ≤ length octets → c ≡ whole_element (length octets) place (Ok head))) }
     ensures order { IfOk result (λ c. IfSome c (λ x. (x.place ≡ place) × (place < x.at) × (x.at ≤ x.stop))) }
+    ensures near { IfOk result (λ c. IfSome c (λ x. S.reach shelf.new ≤ max (S.reach shelf.old) x.stop)) }
     ensures cause { HasCause (S.faults shelf.old) (S.faults shelf.new) result }
     ensures kept { Keeps (S.files shelf.old) (S.files shelf.new) (S.opened shelf.old) (S.opened shelf.new) (S.reach shelf.old) (S.reach shelf.new) }
 {
@@ -117,6 +119,7 @@ fn read_element_at<S: Shelf>(
     requires { Lies place found }
     ensures value { IfOk result (λ c. Told (content (S.files shelf.old) (S.opened shelf.old) file.0) (λ octets. FoundIn (length octets) found → c ≡ whole_found (length octets) place found)) }
     ensures order { IfOk result (λ c. IfSome c (λ x. (x.place ≡ place) × (place < x.at) × (x.at ≤ x.stop))) }
+    ensures near { IfOk result (λ c. IfSome c (λ x. S.reach shelf.new ≤ max (S.reach shelf.old) x.stop)) }
     ensures cause { HasCause (S.faults shelf.old) (S.faults shelf.new) result }
     ensures kept { Keeps (S.files shelf.old) (S.files shelf.new) (S.opened shelf.old) (S.opened shelf.new) (S.reach shelf.old) (S.reach shelf.new) }
 {
@@ -144,6 +147,8 @@ pub(crate) fn find_segment<S: Shelf>(
     ensures value { Told (content (S.files shelf.old) (S.opened shelf.old) file.0) (λ octets. from ≤ length octets → Gives result (segment_of octets from)) }
     ensures within { Told (content (S.files shelf.old) (S.opened shelf.old) file.0) (λ octets. from ≤ length octets → IfOk result (λ s. s.opening ≤ length octets)) }
     ensures behind { IfOk result (λ s. 0 < s.opening) }
+    ensures onward { IfOk result (λ s. from < s.opening) }
+    ensures near { IfOk result (λ s. S.reach shelf.new ≤ max (S.reach shelf.old) (s.opening + 12)) }
     ensures cause { BeginCause (S.faults shelf.old) (S.faults shelf.new) result }
     ensures kept { Keeps (S.files shelf.old) (S.files shelf.new) (S.opened shelf.old) (S.opened shelf.new) (S.reach shelf.old) (S.reach shelf.new) }
 {
@@ -184,6 +189,7 @@ fn read_segment_child<S: Shelf>(
 ) -> Result<Option<Child>, ReadFault>
     ensures value { IfOk result (λ c. Told (content (S.files shelf.old) (S.opened shelf.old) file.0) (λ octets. place ≤ length octets → c ≡ segment_child octets end place)) }
     ensures order { IfOk result (λ c. IfSome c (λ x. (x.place ≡ place) × (place < x.at) × (x.at ≤ x.stop))) }
+    ensures near { IfOk result (ReadsUnder (S.reach shelf.old) (S.reach shelf.new)) }
     ensures cause { HasCause (S.faults shelf.old) (S.faults shelf.new) result }
     ensures kept { Keeps (S.files shelf.old) (S.files shelf.new) (S.opened shelf.old) (S.opened shelf.new) (S.reach shelf.old) (S.reach shelf.new) }
 {
@@ -217,6 +223,8 @@ fn find_first<S: Shelf>(
 ) -> Result<Option<Child>, ReadFault>
     ensures value { IfOk result (λ c. Told (content (S.files shelf.old) (S.opened shelf.old) file.0) (λ octets. segment.opening ≤ length octets → c ≡ first_child octets segment id)) }
     ensures order { IfOk result (λ c. IfSome c (λ x. (x.place < x.at) × (x.at ≤ x.stop))) }
+    ensures onward { IfOk result (λ c. IfSome c (λ x. segment.opening < x.stop)) }
+    ensures near { IfOk result (ReadsUnder (S.reach shelf.old) (S.reach shelf.new)) }
     ensures cause { HasCause (S.faults shelf.old) (S.faults shelf.new) result }
     ensures kept { Keeps (S.files shelf.old) (S.files shelf.new) (S.opened shelf.old) (S.opened shelf.new) (S.reach shelf.old) (S.reach shelf.new) }
 {
@@ -259,6 +267,7 @@ fn read_info<S: Shelf>(
     requires { child.at ≤ child.stop }
     ensures value { Told (content (S.files shelf.old) (S.opened shelf.old) file.0) (λ octets. child.stop ≤ length octets → Gives result (info_in octets child)) }
     ensures positive { IfOk result (λ scale. 0 < scale) }
+    ensures near { S.reach shelf.new ≤ max (S.reach shelf.old) child.stop }
     ensures cause { BeginCause (S.faults shelf.old) (S.faults shelf.new) result }
     ensures kept { Keeps (S.files shelf.old) (S.files shelf.new) (S.opened shelf.old) (S.opened shelf.new) (S.reach shelf.old) (S.reach shelf.new) }
 {
@@ -281,6 +290,7 @@ fn read_tracks<S: Shelf>(
     requires { child.at ≤ child.stop }
     ensures value { Told (content (S.files shelf.old) (S.opened shelf.old) file.0) (λ octets. child.stop ≤ length octets → Gives result (tracks_in octets child)) }
     ensures listed { IfOk result IsTrackList }
+    ensures near { S.reach shelf.new ≤ max (S.reach shelf.old) child.stop }
     ensures cause { BeginCause (S.faults shelf.old) (S.faults shelf.new) result }
     ensures kept { Keeps (S.files shelf.old) (S.files shelf.new) (S.opened shelf.old) (S.opened shelf.new) (S.reach shelf.old) (S.reach shelf.new) }
 {
@@ -307,6 +317,7 @@ fn read_info_first<S: Shelf>(
     ensures value { Told (content (S.files shelf.old) (S.opened shelf.old) file.0) (λ octets. info.stop ≤ length octets → tracks.stop ≤ length octets → Gives result (info_then_tracks octets info tracks)) }
     ensures positive { IfOk result (λ h. 0 < h.scale) }
     ensures listed { IfOk result (λ h. IsTrackList h.tracks) }
+    ensures near { S.reach shelf.new ≤ max (S.reach shelf.old) (max info.stop tracks.stop) }
     ensures cause { BeginCause (S.faults shelf.old) (S.faults shelf.new) result }
     ensures kept { Keeps (S.files shelf.old) (S.files shelf.new) (S.opened shelf.old) (S.opened shelf.new) (S.reach shelf.old) (S.reach shelf.new) }
 {
@@ -328,6 +339,7 @@ fn read_tracks_first<S: Shelf>(
     ensures value { Told (content (S.files shelf.old) (S.opened shelf.old) file.0) (λ octets. info.stop ≤ length octets → tracks.stop ≤ length octets → Gives result (tracks_then_info octets info tracks)) }
     ensures positive { IfOk result (λ h. 0 < h.scale) }
     ensures listed { IfOk result (λ h. IsTrackList h.tracks) }
+    ensures near { S.reach shelf.new ≤ max (S.reach shelf.old) (max info.stop tracks.stop) }
     ensures cause { BeginCause (S.faults shelf.old) (S.faults shelf.new) result }
     ensures kept { Keeps (S.files shelf.old) (S.files shelf.new) (S.opened shelf.old) (S.opened shelf.new) (S.reach shelf.old) (S.reach shelf.new) }
 {
@@ -349,6 +361,8 @@ fn read_found_header<S: Shelf>(
     ensures value { Told (content (S.files shelf.old) (S.opened shelf.old) file.0) (λ octets. IfSome info (λ c. c.stop ≤ length octets) → IfSome tracks (λ c. c.stop ≤ length octets) → Gives result (header_by octets info tracks)) }
     ensures positive { IfOk result (λ h. 0 < h.scale) }
     ensures listed { IfOk result (λ h. IsTrackList h.tracks) }
+    ensures found { IfOk result (λ h. (info ≢ None) × (tracks ≢ None)) }
+    ensures near { IfOk result (λ h. S.reach shelf.new ≤ max (S.reach shelf.old) (max (stop_by info) (stop_by tracks))) }
     ensures cause { BeginCause (S.faults shelf.old) (S.faults shelf.new) result }
     ensures kept { Keeps (S.files shelf.old) (S.files shelf.new) (S.opened shelf.old) (S.opened shelf.new) (S.reach shelf.old) (S.reach shelf.new) }
 {
@@ -384,6 +398,7 @@ pub(crate) fn read_header<S: Shelf>(
     ensures value { Told (content (S.files shelf.old) (S.opened shelf.old) file.0) (λ octets. segment.opening ≤ length octets → Gives result (header_of octets segment)) }
     ensures positive { IfOk result (λ h. 0 < h.scale) }
     ensures listed { IfOk result (λ h. IsTrackList h.tracks) }
+    ensures near { IfOk result (λ h. Told (content (S.files shelf.old) (S.opened shelf.old) file.0) (λ octets. segment.opening ≤ length octets → (S.reach shelf.new ≤ max (S.reach shelf.old) (header_end octets segment + 12)) × (segment.opening < header_end octets segment))) }
     ensures cause { BeginCause (S.faults shelf.old) (S.faults shelf.new) result }
     ensures kept { Keeps (S.files shelf.old) (S.files shelf.new) (S.opened shelf.old) (S.opened shelf.new) (S.reach shelf.old) (S.reach shelf.new) }
 {
@@ -397,10 +412,12 @@ impl Cursor {
     /// and stands at the opening mark.
     ///
     /// `Refused` exactly where that is refused. `ReadFault` comes only where the shelf's count of
-    /// faults rose in this call, or stands at its last value.
+    /// faults rose in this call, or stands at its last value. Where a cursor is answered, nothing was
+    /// asked for past the 12 octets behind Info and Tracks, whichever stands later.
     pub fn begin<S: Shelf>(alloc: Global, shelf: &mut S, file: FileNo) -> Result<Cursor, OpenError>
         ensures value { Told (content (S.files shelf.old) (S.opened shelf.old) file.0) (λ octets. Begins octets result) }
         ensures at { IfOk result (λ c. (mark_of c ≡ opening_mark) × (file_of c ≡ file.0)) }
+        ensures reach { IfOk result (λ c. Told (content (S.files shelf.old) (S.opened shelf.old) file.0) (λ octets. S.reach shelf.new ≤ max (S.reach shelf.old) (header_end octets (segment_for c) + 12))) }
         ensures cause { BeginCause (S.faults shelf.old) (S.faults shelf.new) result }
         ensures kept { Keeps (S.files shelf.old) (S.files shelf.new) (S.opened shelf.old) (S.opened shelf.new) (S.reach shelf.old) (S.reach shelf.new) }
     {

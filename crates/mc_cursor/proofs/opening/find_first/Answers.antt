@@ -1,4 +1,4 @@
-use Rattle.std.proofs.Common.{◌≡◌, ◌∙◌, sym, arith}
+use Rattle.std.proofs.Common.{◌≡◌, ◌+◌, ◌<◌, ◌≤◌, max, ◌∙◌, sym, arith}
 use Rattle.mc_cursor.proofs.Chunks.{keeps_more, told_later}
 use Rattle.mc_cursor.proofs.Finding.{no_child, is_child, next_child}
 use Rattle.mc_cursor.proofs.opening.find_first.Goals as goal
@@ -19,9 +19,15 @@ returns-then-child-id-clause-value g c = λ octets told within.
 
 pub loop-child-preserved : goal.loop-child-preserved
 loop-child-preserved g c =
+    let order : (c.in-Some.child.place ≡ c.loop-child.place) × (c.loop-child.place < c.in-Some.child.at) × (c.in-Some.child.at ≤ c.in-Some.child.stop) =
+    rw c.in-Some.is at c.in_ok-child.ensures.order in
+    let near : g.S.Shelf.reach c.read_segment_child.new.shelf ≤ max (g.S.Shelf.reach c.loop-child.shelf) (c.in-Some.child.stop + 12) =
+    rw c.in-Some.is at c.in_ok-child.ensures.near in
     record {
       later = omega (arith, c.read_segment_child.ensures.cause.later);
       kept = keeps_more _ _ _ _ _ _ _ _ _ c.loop-child.invariant.kept c.read_segment_child.ensures.kept;
+      onward = omega (arith, c.loop-child.invariant.onward, order.1, order.2);
+      near = omega (arith, c.loop-child.invariant.near, near, order.1, order.2);
       told = λ octets told within.
           let inv = c.loop-child.invariant.told octets told within in
           let told' = told_later _ _ _ _ _ _ c.args.file.0 octets c.loop-child.invariant.kept told in

@@ -1,4 +1,4 @@
-use Rattle.std.proofs.Common.{◌≡◌, ◌-◌, ◌^◌, ◌≤◌, length, List, ℕ}
+use Rattle.std.proofs.Common.{◌≡◌, ◌+◌, ◌-◌, ◌^◌, ◌≤◌, max, length, List, ℕ}
 use Rattle.mc_outside.specs.Shelf.{content}
 use Rattle.mc_walk.specs.Opening.{first_child}
 use Rattle.mc_cursor.specs.Causes.{Keeps}
@@ -11,6 +11,8 @@ abbrev pub invariant-loop-child : goal.invariant-loop-child
 invariant-loop-child g l = record {
   later : g.S.Shelf.faults l.initial.shelf ≤ g.S.Shelf.faults l.shelf;
   kept : Keeps (g.S.Shelf.files l.initial.shelf) (g.S.Shelf.files l.shelf) (g.S.Shelf.opened l.initial.shelf) (g.S.Shelf.opened l.shelf) (g.S.Shelf.reach l.initial.shelf) (g.S.Shelf.reach l.shelf);
+  onward : l.segment.opening ≤ l.place;
+  near : g.S.Shelf.reach l.shelf ≤ max (g.S.Shelf.reach l.initial.shelf) (l.place + 12);
   told : Told (content (g.S.Shelf.files l.initial.shelf) (g.S.Shelf.opened l.initial.shelf) l.file.0)
       (λ octets. l.segment.opening ≤ length octets → (l.place ≤ length octets) × (child_after octets l.segment.end l.place l.id ≡ first_child octets l.segment l.id));
 }

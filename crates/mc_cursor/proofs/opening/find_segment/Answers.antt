@@ -1,4 +1,4 @@
-use Rattle.std.proofs.Common.{◌≡◌, ◌∙◌, ◌<◌, sym, arith}
+use Rattle.std.proofs.Common.{◌≡◌, ◌<◌, ◌≤◌, max, ◌∙◌, sym, arith}
 use Rattle.mc_cursor.proofs.Chunks.{keeps_more, keeps_read, told_later}
 use Rattle.mc_cursor.proofs.Stepping.{content_kept}
 use Rattle.mc_cursor.proofs.Finding.{none_found, segment_found, segment_within, cut_found, skipped_found, found_in_film}
@@ -29,9 +29,15 @@ returns-in-None-clause-value g c = λ octets told from_le.
 
 pub loop-found-preserved : goal.loop-found-preserved
 loop-found-preserved g c =
+    let order : (c.in-Some-2.element.place ≡ c.loop-found.place) × (c.loop-found.place < c.in-Some-2.element.at) × (c.in-Some-2.element.at ≤ c.in-Some-2.element.stop) =
+    rw c.in-Some-2.is at c.in_ok-element.ensures.order in
+    let near : g.S.Shelf.reach c.read_element_at.new.shelf ≤ max (g.S.Shelf.reach c.read_found.new.shelf) c.in-Some-2.element.stop =
+    rw c.in-Some-2.is at c.in_ok-element.ensures.near in
     record {
       later = omega (arith, c.read_found.ensures.cause.later, c.read_element_at.ensures.cause.later);
       kept = keeps_more _ _ _ _ _ _ _ _ _ c.loop-found.invariant.kept (keeps_more _ _ _ _ _ _ _ _ _ (keeps_read _ _ _ _ _ _ _ c.read_found.ensures.kept) c.read_element_at.ensures.kept);
+      onward = omega (arith, c.loop-found.invariant.onward, order.1, order.2);
+      near = omega (arith, c.loop-found.invariant.near, c.read_found.ensures.kept.within, near, order.1, order.2);
       told = λ octets told from_le.
           let inv = c.loop-found.invariant.told octets told from_le in
           let told' = told_later _ _ _ _ _ _ c.args.file.0 octets c.loop-found.invariant.kept told in

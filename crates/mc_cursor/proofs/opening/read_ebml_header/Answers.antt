@@ -1,7 +1,7 @@
 use Rattle.std.proofs.Common.{◌≡◌, ◌∙◌, ◌≤◌, length, take, sym, arith, length-take}
 use Rattle.std.proofs.lemmas.Result.{IfOk-weaker}
 use Rattle.mc_tracks.specs.Header.{ebml_header_of}
-use Rattle.mc_cursor.proofs.Fronts.{header_read}
+use Rattle.mc_cursor.proofs.Fronts.{header_read, header_near}
 use Rattle.mc_cursor.proofs.Stepping.{content_kept}
 use Rattle.mc_cursor.proofs.opening.read_ebml_header.Goals as goal
 
@@ -19,3 +19,8 @@ returns-clause-within g c = λ octets told.
     let read : c.as_slice.result.now ≡ take c.header_size.result octets = c.as_slice.ensures.value ∙ c.in_ok-front.ensures.value octets told' in
     let le : length c.as_slice.result.now ≤ length octets = rw read (omega (arith, length-take c.header_size.result octets)) in
     IfOk-weaker c.header_in.result _ _ (λ n h. omega (arith, h, le)) c.header_in.ensures.within
+
+pub returns-clause-near : goal.returns-clause-near
+returns-clause-near g c =
+    header_near _ c.header_in.result c.in_ok-found.found c.header_size.result _ _ _ (returns-clause-value g c) (λ octets told. c.in_ok-found.ensures.value octets told (omega arith))
+    c.read_found.ensures.kept.within c.header_size.ensures c.read_front.ensures.kept.within

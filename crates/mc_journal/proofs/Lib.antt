@@ -16,3 +16,4 @@ pub mod Laws
 pub mod Appending
 pub mod Splitting
 pub mod Worked
+pub mod Regular

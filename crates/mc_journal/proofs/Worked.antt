@@ -1,18 +1,13 @@
 -- The worked journals are used: each record's conditions are computed.
-use Rattle.std.proofs.Common.{◌≡◌, ap, ℕ, true, false, ◌<◌, List, [], ◌∷◌, Some, None, arith, refl, lit≤, lit<}
+use Rattle.std.proofs.Common.{◌≡◌, ap, ℕ, true, false, ◌<◌, Some, None, arith, refl, lit≤, lit<}
 use Rattle.std.specs.List.{AllByRecursion}
-use Rattle.mc_packet.specs.declared.cache.Limits.{Limits}
 use Rattle.mc_journal.specs.declared.record.Sought.TheVariants.{Cached, Sent}
-use Rattle.mc_journal.specs.declared.record.DemuxRecord.{DemuxRecord}
-use Rattle.mc_journal.specs.Films.{Film, rank, first_lane, block_of}
+use Rattle.mc_journal.specs.Films.{rank, first_lane, block_of}
 use Rattle.mc_journal.specs.Views.{is_idle}
 use Rattle.mc_journal.specs.Used.{IsUsed, AreNext, onto}
+use Rattle.mc_journal.proofs.Appending.{used-onto}
 use Rattle.mc_journal.specs.WorkedFilms.{one, two, one_packets, two_packets, a93, a100, v200}
 use Rattle.mc_journal.specs.Worked.{before_the_start, drain_0, drain_1, drain_2, drain_end, drained, drained_forward, drained_twice, dropped, dropping, ends_early, filling, first_seven, forward_at, forward_exact, forward_past, forward_sent, forward_to_last, from_keyframe, joined, joins, meets_second, none_behind, one_ahead, other_audio, overfull, past_the_end, reads_0, reads_1, second_range, sent, sent_seek, skips, start, switched, switches, too_early, too_late, two_ranges, unjoined, usual}
-
-pub used-onto : (film : Film) (limits : Limits) (rs h : List DemuxRecord) → IsUsed film limits h → AreNext film limits h rs → IsUsed film limits (onto rs h)
-used-onto film limits [] h used next = used
-used-onto film limits (r ∷ rs) h used next = used-onto film limits rs (r ∷ h) (next.0, used) next.1
 
 one_before : AllByRecursion (λ p. p.pos.block < 228) one_packets
 one_before = (lit< tt, (lit< tt, (lit< tt, (lit< tt, (lit< tt, (lit< tt, (lit< tt, (lit< tt, (lit< tt, (lit< tt, (lit< tt, (lit< tt, (lit< tt, (lit< tt, (lit< tt, (lit< tt, (lit< tt, (lit< tt, tt))))))))))))))))))

@@ -74,9 +74,13 @@ abbrev pub TimesRise : List Told → Type 0
 TimesRise [] = ⊤
 TimesRise (p ∷ ps) = AllByRecursion (λ q. p.time <ℤ q.time) ps × TimesRise ps
 
--- a regular film: the times of each listed video and audio track's sync points rise
+-- a track that the film lists as video or audio
+abbrev pub is_listed : (Kind → ℕ → Bool) → ℕ → Bool
+is_listed known track = known Video track || known Audio track
+
+-- a regular film: the times of each such track's sync points rise
 abbrev pub IsRegular : List Told → (Kind → ℕ → Bool) → Type 0
-IsRegular ps known = (track : ℕ) → (known Video track || known Audio track) ≡ true → TimesRise (syncs track ps)
+IsRegular ps known = (track : ℕ) → is_listed known track ≡ true → TimesRise (syncs track ps)
 
 abbrev pub first : List Told → Option Told
 first [] = None

@@ -1,6 +1,6 @@
 -- What a range of the cache holds, which seeks it serves, which other range it touches, and its bounds.
-use Rattle.std.specs.Prelude.{ℕ, ◌==◌, nat_le, nat_lt, Bool, false, ◌&&◌, ◌||◌, if◌then◌else◌, List, [], ◌∷◌, Option, Some, None, ℤ, int_le, int_lt, is_some}
-use Rattle.std.specs.List.{filter}
+use Rattle.std.specs.Prelude.{◌≡◌, ◌<◌, ◌≤◌, IfSome, true, ℕ, ◌==◌, nat_le, nat_lt, Bool, false, ◌&&◌, ◌||◌, if◌then◌else◌, List, [], ◌∷◌, Option, Some, None, ℤ, int_le, int_lt, is_some}
+use Rattle.std.specs.List.{filter, AllByRecursion}
 use Rattle.mc_packet.specs.declared.choice.Choice.{Choice}
 use Rattle.mc_packet.specs.declared.choice.Dir.{Dir}
 use Rattle.mc_packet.specs.declared.choice.Dir.TheVariants.{Back, Forward}
@@ -19,6 +19,11 @@ pub record Range : Type 0 where
   pub spans : ℕ → Option Span
   pub mark : ℕ
   pub ending : Option Ending
+
+-- with the ending the whole film lies before the range's mark, and each span reaches the mark
+pub record IsWhole (ps : List Told) (r : Range) : Type 0 where
+  pub ended : is_some r.ending ≡ true → AllByRecursion (λ p. at p < first_lane r.mark) ps
+  pub marked : (track : ℕ) → IfSome (r.spans track) (λ s. first_lane r.mark ≤ s.to)
 
 -- what lies from one place to before another
 abbrev pub within : ℕ → ℕ → List Told → List Told

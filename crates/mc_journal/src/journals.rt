@@ -3,8 +3,18 @@
 ghost use Rattle.std.specs.Prelude.{◌≡◌, true, false};
 ghost use Rattle.mc_journal.specs.Views.{is_idle};
 ghost use Rattle.mc_journal.specs.Used.{IsUsed};
-ghost use Rattle.mc_journal.specs.WorkedFilms.{one, two, one_packets};
+ghost use Rattle.mc_packet.specs.declared.walk.Ending.TheVariants.{Clean};
+ghost use Rattle.mc_journal.specs.Films.{IsFilm, IsRegular};
+ghost use Rattle.mc_journal.specs.Legal.{IsLegal};
+ghost use Rattle.mc_journal.specs.WorkedFilms.{one, two, one_packets, one_known};
 ghost use Rattle.mc_journal.specs.Worked.{usual, none_behind, one_ahead, drained, sent, joined, drained_twice, before_the_start, two_ranges, dropped, overfull, switched, drained_forward, forward_to_last, forward_sent, forward_at, too_early, too_late, skips, ends_early, unjoined};
+
+/// The first worked film is one and is regular, so that its whole reading is legal.
+pub fn worked_films()
+    ensures film { IsFilm one_packets }
+    ensures regular { IsRegular one_packets one_known }
+    ensures legal { IsLegal one_packets Clean drained }
+{}
 
 /// Each worked journal is used: reading to the end, seeks that are sent and seeks that are served,
 /// joins, drops and full caches, and a switch.

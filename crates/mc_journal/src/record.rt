@@ -18,9 +18,14 @@ pub enum Sought {
 pub enum Cause {
     /// The cached octets that no reader still has to be given, `back`, were more than the limit
     /// on them, `max`.
-    Limit { back: u64, max: u64 },
+    Limit {
+        back: u64,
+        max: u64,
+    },
     /// This many ranges stood, which is one too many; the one that was used longest ago went.
-    TooMany { count: u32 },
+    TooMany {
+        count: u32,
+    },
     /// Other tracks were selected.
     TrackChanged,
     /// Two ranges that meet differ at this place: the current one has a packet there at the time

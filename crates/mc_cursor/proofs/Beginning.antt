@@ -1,7 +1,5 @@
 -- What was read before the Clusters is what the film opens with.
 use Rattle.std.proofs.Common.{◌≡◌, ℕ, List, Result, Ok, Err, refl}
-use Rattle.mc_tracks.specs.declared.refused.Refused.{Refused}
-use Rattle.mc_tracks.specs.Answer.{◌>>=◌}
 use Rattle.mc_tracks.specs.Header.{ebml_header_of}
 use Rattle.mc_walk.specs.declared.plan.Segment.{Segment}
 use Rattle.mc_walk.specs.declared.plan.Header.{Header}

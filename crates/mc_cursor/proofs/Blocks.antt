@@ -1,18 +1,16 @@
 -- A block element that is read apart from its head.
-use Rattle.std.proofs.Common.{◌≡◌, ℕ, ◌+◌, ◌-◌, ◌<◌, ◌≤◌, Bool, true, false, List, [], ◌∷◌, length, take, drop, min, Option, Some, None, Result, Ok, Err, refl, sym, ap, ◌∙◌, arith, length-take, inl, inr}
-use Rattle.std.specs.Prelude.{nat_lt, slice_range, if◌then◌else◌, ⊤}
+use Rattle.std.proofs.Common.{◌≡◌, ℕ, ◌+◌, ◌-◌, ◌≤◌, Bool, true, false, List, length, take, drop, min, Option, Some, None, Result, Ok, Err, refl, sym, ap, ◌∙◌, arith, length-take}
+use Rattle.std.specs.Prelude.{nat_lt, slice_range, if◌then◌else◌}
 use Rattle.std.proofs.lemmas.List.{take-take, take_all}
 use Rattle.std.proofs.lemmas.Bool.Decides.{nat_tests}
 use Rattle.mc_packet.specs.declared.packet.Packet.{Packet}
 use Rattle.mc_packet.specs.declared.walk.Fault.{Fault}
-use Rattle.mc_packet.specs.declared.walk.Ending.{Ending}
 use Rattle.mc_packet.specs.declared.walk.Ending.TheVariants.{Cut}
 use Rattle.mc_packet.specs.declared.walk.Level.{Level}
 use Rattle.mc_walk.specs.declared.front.Glance.{Glance}
 use Rattle.mc_walk.specs.declared.front.Glance.TheVariants as glances
 use Rattle.mc_walk.specs.declared.plan.Plan.{Plan}
-use Rattle.mc_walk.specs.declared.plan.Step.{Step}
-use Rattle.mc_walk.specs.declared.plan.Step.TheVariants.{End, On}
+use Rattle.mc_walk.specs.declared.plan.Step.TheVariants.{End}
 use Rattle.mc_walk.specs.declared.movement.Role.{Role}
 use Rattle.mc_walk.specs.declared.movement.Role.TheVariants as roles
 use Rattle.mc_walk.specs.declared.movement.Move.TheVariants as moves

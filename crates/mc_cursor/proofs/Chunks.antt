@@ -1,5 +1,5 @@
 -- Step by step to the end of a part.
-use Rattle.std.proofs.Common.{◌≡◌, ℕ, zero, suc, ◌+◌, ◌-◌, ◌<◌, ◌≤◌, max, List, [], length, Option, Some, None, refl, sym, ap, ◌∙◌, arith}
+use Rattle.std.proofs.Common.{◌≡◌, ℕ, suc, ◌+◌, ◌<◌, ◌≤◌, max, List, [], length, Option, Some, None, refl, sym, ap, ◌∙◌, arith}
 use Rattle.mc_packet.specs.declared.packet.Packet.{Packet}
 use Rattle.mc_packet.specs.declared.walk.Ending.{Ending}
 use Rattle.mc_packet.specs.declared.walk.Level.{Level}
@@ -7,13 +7,12 @@ use Rattle.mc_outside.specs.Shelf.{Files, Opened, content, KeepsRead}
 use Rattle.mc_walk.specs.declared.plan.Plan.{Plan}
 use Rattle.mc_walk.specs.declared.plan.Step.{Step}
 use Rattle.mc_walk.specs.declared.plan.Step.TheVariants.{End, On}
-use Rattle.mc_walk.specs.Walk.{step_at, steps, Rises}
-use Rattle.mc_walk.specs.Parts.{mark, Part, part, part_after, part_at, chunk_of, chunk_at, level_of}
+use Rattle.mc_walk.specs.Walk.{step_at, steps}
+use Rattle.mc_walk.specs.Parts.{mark, Part, part, part_after, part_at, level_of}
 use Rattle.mc_walk.proofs.Rising.{step-rises}
-use Rattle.mc_walk.proofs.Enough.{part-enough, part-to, EndsOnward}
+use Rattle.mc_walk.proofs.Enough.{part-enough, part-to}
 use Rattle.mc_cursor.specs.declared.cursor.Cursor.{Cursor}
 use Rattle.mc_cursor.specs.Causes.{Keeps}
-use Rattle.mc_cursor.specs.Reads.{Told}
 use Rattle.mc_cursor.specs.Standing.{plan_for, StandsFor, start_of, ReadsPart}
 use Rattle.mc_cursor.specs.Steps.{ReadsUpTo}
 

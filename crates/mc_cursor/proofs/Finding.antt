@@ -1,5 +1,5 @@
 -- Searches before the first Cluster, where the film is read on demand.
-use Rattle.std.proofs.Common.{◌≡◌, ◌≢◌, ℕ, zero, suc, ◌+◌, ◌-◌, ◌<◌, ◌≤◌, Bool, true, false, List, [], ◌∷◌, length, drop, Option, Some, None, Result, Ok, Err, refl, sym, ap, ◌∙◌, arith, eq-eqb, inl, inr}
+use Rattle.std.proofs.Common.{◌≡◌, ◌≢◌, ℕ, zero, suc, ◌+◌, ◌-◌, ◌<◌, ◌≤◌, Bool, true, false, List, [], ◌∷◌, length, Option, Some, None, Result, Ok, Err, refl, sym, ap, ◌∙◌, arith, eq-eqb, inl, inr}
 use Rattle.std.proofs.lemmas.List.{drop_all}
 use Rattle.std.proofs.lemmas.Bool.{leb-true, cond_both}
 use Rattle.std.proofs.lemmas.Bool.Decides.{eqb_tells, nat_tests}
@@ -18,13 +18,13 @@ use Rattle.mc_tracks.specs.Ids.{SEGMENT, CLUSTER}
 use Rattle.mc_walk.specs.Moves.{runs_past}
 use Rattle.mc_walk.specs.declared.plan.Segment.{Segment}
 use Rattle.mc_walk.specs.Walk.{stands_at}
-use Rattle.mc_walk.specs.Opening.{before_cluster, segment_from, segment_of, segment_or, skipped, end_by, segment_child, segment_children, following}
+use Rattle.mc_walk.specs.Opening.{before_cluster, segment_from, segment_or, skipped, end_by, segment_child, segment_children, following}
 use Rattle.mc_walk.proofs.Rising.{head-lies}
 use Rattle.mc_cursor.specs.declared.reading.Found.{Found}
 use Rattle.mc_cursor.specs.declared.reading.Found.TheVariants as found
 use Rattle.mc_cursor.specs.Reads.{found_at, found_by}
 use Rattle.mc_cursor.specs.Begins.{whole_found, FoundIn, head_in}
-use Rattle.mc_cursor.proofs.Heads.{head_join, headed_by}
+use Rattle.mc_cursor.proofs.Heads.{head_join}
 
 differs : (a b : ℕ) → a ≢ b → (a == b) ≡ false
 differs a b h = elim (eqb_tells a b) [ inl e ↦ absurd (h e.1) | inr e ↦ e.0 ]

@@ -1,9 +1,9 @@
 -- The first octets of a film tell its EBML header.
-use Rattle.std.proofs.Common.{◌≡◌, ℕ, zero, suc, ◌+◌, ◌-◌, ◌<◌, ◌≤◌, max, Bool, true, false, List, [], ◌∷◌, length, take, drop, Option, Some, None, Result, Ok, Err, refl, sym, ap, ◌∙◌, arith, length-take, lit≤}
+use Rattle.std.proofs.Common.{◌≡◌, ℕ, ◌+◌, ◌-◌, ◌≤◌, max, Bool, true, false, List, length, take, drop, Option, Result, Ok, Err, refl, sym, ap, ◌∙◌, arith, length-take, lit≤}
 use Rattle.std.proofs.lemmas.List.{take-take, drop-take, take_all}
 use Rattle.std.proofs.lemmas.Bool.{cond_both}
 use Rattle.std.proofs.lemmas.Bool.Decides.{nat_tests}
-use Rattle.std.specs.Prelude.{IfOk, nat_le, ◌==◌, slice_range, if◌then◌else◌}
+use Rattle.std.specs.Prelude.{IfOk, nat_le, ◌==◌, slice_range}
 use Rattle.mc_ebml.specs.declared.read.Head.{Head}
 use Rattle.mc_ebml.specs.declared.read.Size.{Size}
 use Rattle.mc_ebml.specs.declared.read.Size.TheVariants.{Known, Unknown}
@@ -14,13 +14,13 @@ use Rattle.mc_tracks.specs.declared.children.Master.TheVariants.{EbmlHeader}
 use Rattle.mc_tracks.specs.declared.refused.Refused.{Refused}
 use Rattle.mc_tracks.specs.declared.refused.Refused.TheVariants.{NotEbml}
 use Rattle.mc_tracks.specs.Answer.{◌>>=◌}
-use Rattle.mc_tracks.specs.Children.{known_element, whole_element, element_at, children_of}
+use Rattle.mc_tracks.specs.Children.{whole_element, element_at, children_of}
 use Rattle.mc_tracks.specs.Header.{body_of, as_header, header_checked, ebml_header_of}
 use Rattle.mc_tracks.specs.Ids.{EBML_HEADER}
 use Rattle.mc_cursor.specs.declared.reading.Found.{Found}
 use Rattle.mc_cursor.specs.declared.reading.Found.TheVariants as found
 use Rattle.mc_cursor.specs.Reads.{found_at, found_by, moved_by, Told}
-use Rattle.mc_cursor.specs.Begins.{header_span, stop_of, Gives}
+use Rattle.mc_cursor.specs.Begins.{header_span, Gives}
 use Rattle.mc_cursor.specs.declared.error.OpenError.{OpenError}
 use Rattle.mc_cursor.proofs.Heads.{head_window}
 

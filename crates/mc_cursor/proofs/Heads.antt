@@ -1,15 +1,13 @@
 -- The head of an element is read from the 12 octets that begin there.
-use Rattle.std.proofs.Common.{◌≡◌, ℕ, zero, suc, ◌+◌, ◌-◌, ◌*◌, ◌%◌, ◌^◌, ◌<◌, ◌≤◌, Bool, true, false, cond, List, [], ◌∷◌, length, take, drop, Result, Ok, Err, refl, sym, ap, ◌∙◌, subst, arith, length-take, inl, inr, ◌⊎◌, zero-add, add_assoc, lit≤}
-use Rattle.std.specs.Prelude.{⊤, nat_lt, nat_le, ◌==◌, if◌then◌else◌}
+use Rattle.std.proofs.Common.{◌≡◌, ℕ, zero, suc, ◌+◌, ◌-◌, ◌≤◌, Bool, true, false, List, [], ◌∷◌, length, take, drop, Result, Ok, Err, refl, sym, ap, ◌∙◌, arith, zero-add, add_assoc, lit≤}
+use Rattle.std.specs.Prelude.{⊤, nat_lt}
 use Rattle.std.proofs.lemmas.List.{drop-take, drop-drop}
 use Rattle.std.proofs.lemmas.Bool.Decides.{nat_tests}
-use Rattle.byteorder.specs.Endian.{big_number}
 use Rattle.byteorder.specs.Numbers.{big_from-take}
 use Rattle.mc_ebml.specs.declared.read.Size.{Size}
 use Rattle.mc_ebml.specs.declared.read.Head.{Head}
 use Rattle.mc_ebml.specs.declared.read.Coded.{Coded}
 use Rattle.mc_ebml.specs.declared.read.EbmlError.{EbmlError}
-use Rattle.mc_ebml.specs.declared.read.EbmlError.TheVariants.{Short, BadId, BadSize}
 use Rattle.mc_ebml.specs.Element.{width, id_from, coded_from, size_of, id_at, coded_at, size_at, head_at, ◌>>=◌}
 use Rattle.mc_walk.proofs.Glancing.{enough, coded_window}
 use Rattle.mc_cursor.specs.Reads.{moved_by}

@@ -1,15 +1,15 @@
 -- Bodies that are too long to be read.
-use Rattle.std.proofs.Common.{◌≡◌, ℕ, ◌+◌, ◌-◌, ◌<◌, ◌≤◌, true, List, length, take, drop, Option, Err, refl, arith, length-take, length-drop}
+use Rattle.std.proofs.Common.{◌≡◌, ℕ, ◌+◌, ◌-◌, ◌<◌, ◌≤◌, true, List, length, drop, Option, Err, refl, arith, length-take, length-drop}
 use Rattle.std.specs.Prelude.{nat_lt, slice_range}
 use Rattle.std.proofs.lemmas.Bool.Decides.{nat_tests}
 use Rattle.mc_packet.specs.declared.walk.Fault.TheVariants as faults
 use Rattle.mc_ebml.specs.declared.read.EbmlError.TheVariants.{BadUint}
 use Rattle.mc_ebml.specs.Element.{uint_of}
-use Rattle.mc_block.specs.Block.{simple_body_of, group_body_of}
+use Rattle.mc_block.specs.Block.{group_body_of}
 use Rattle.mc_tracks.specs.declared.track.Track.{Track}
 use Rattle.mc_walk.specs.declared.movement.Role.{Role}
 use Rattle.mc_walk.specs.declared.movement.Role.TheVariants as roles
-use Rattle.mc_walk.specs.Blocks.{block_element_of, body_in}
+use Rattle.mc_walk.specs.Blocks.{block_element_of}
 use Rattle.mc_cursor.specs.Steps.{IsBlock}
 
 part_length : (octets : List ℕ) (at stop : ℕ) → at ≤ stop → stop ≤ length octets → length (slice_range octets at stop) ≡ stop - at

@@ -2,14 +2,12 @@
 use Rattle.std.proofs.Common.{◌≡◌, ℕ, ◌+◌, ◌<◌, ◌≤◌, max, List, [], ◌∷◌, length, Option, Some, None, Result, Ok, Err, refl, sym, ap, ◌∙◌, subst, arith}
 use Rattle.std.specs.Prelude.{OnErr, IfSome}
 use Rattle.mc_packet.specs.declared.packet.Packet.{Packet}
-use Rattle.mc_packet.specs.declared.walk.Chunk.{Chunk}
 use Rattle.mc_packet.specs.declared.walk.Ending.{Ending}
 use Rattle.mc_packet.specs.declared.walk.Level.{Level}
 use Rattle.mc_packet.specs.declared.walk.Mark.{Mark}
 use Rattle.mc_walk.specs.declared.front.BlockMark.{BlockMark}
 use Rattle.mc_walk.specs.declared.plan.Plan.{Plan}
-use Rattle.mc_walk.specs.declared.plan.Step.{Step}
-use Rattle.mc_walk.specs.declared.plan.Step.TheVariants.{End, On}
+use Rattle.mc_walk.specs.declared.plan.Step.TheVariants.{End}
 use Rattle.mc_walk.specs.Walk.{step_at, steps}
 use Rattle.mc_walk.specs.Parts.{mark, Part, part, part_at, chunk_of, chunk_at, IsMark}
 use Rattle.mc_walk.specs.Glances.{first_mark}
@@ -18,7 +16,7 @@ use Rattle.mc_cursor.specs.declared.head.HeadChunk.{HeadChunk}
 use Rattle.mc_cursor.specs.declared.next.Next.TheVariants as nexts
 use Rattle.mc_cursor.specs.declared.step.Unread.{Unread}
 use Rattle.mc_walk.proofs.Marks.{block-marked}
-use Rattle.mc_cursor.specs.Heads.{IsBlockAt, BlockIsMark, head_chunk_of, part_by, part_to, IsNext, mark_taken, head_by}
+use Rattle.mc_cursor.specs.Heads.{IsBlockAt, BlockIsMark, head_chunk_of, part_by, IsNext, mark_taken, head_by}
 use Rattle.mc_cursor.specs.Standing.{plan_for, StandsFor, ReadsPart}
 use Rattle.mc_cursor.specs.Steps.{taken_of, taken_step}
 use Rattle.mc_cursor.proofs.Standing.{opening_lies}

@@ -1,14 +1,12 @@
 -- A cursor stands for its film at each mark of it.
-use Rattle.std.proofs.Common.{◌≡◌, ℕ, ◌+◌, ◌<◌, ◌≤◌, max, Bool, true, false, List, length, Option, Some, None, Result, Ok, Err, refl, sym, ap, ◌∙◌, subst, arith}
+use Rattle.std.proofs.Common.{◌≡◌, ℕ, ◌<◌, ◌≤◌, List, length, Result, subst}
 use Rattle.std.proofs.lemmas.Bool.{cond_both}
 use Rattle.std.specs.Prelude.{◌==◌, IfOk}
-use Rattle.mc_packet.specs.declared.walk.Chunk.{Chunk}
 use Rattle.mc_packet.specs.declared.walk.Mark.{Mark}
 use Rattle.mc_tracks.specs.declared.refused.Refused.{Refused}
 use Rattle.mc_walk.specs.declared.plan.Plan.{Plan}
 use Rattle.mc_walk.specs.Walk.{steps}
-use Rattle.mc_walk.specs.Opening.{opened_film}
-use Rattle.mc_walk.specs.Parts.{part_at, chunk_at, place_of, level_of, IsMark}
+use Rattle.mc_walk.specs.Parts.{part_at, place_of, level_of, IsMark}
 use Rattle.mc_walk.proofs.Enough.{part-to}
 use Rattle.mc_walk.proofs.Joining.{mark-lies}
 use Rattle.mc_walk.proofs.Opened.{opened-lies}

@@ -1,5 +1,5 @@
 -- A step on demand is the step of the film that is told.
-use Rattle.std.proofs.Common.{◌≡◌, ℕ, ◌+◌, ◌≤◌, max, List, length, Option, Some, Result, Ok, Err, refl, sym, ap, ◌∙◌, arith}
+use Rattle.std.proofs.Common.{◌≡◌, ℕ, ◌+◌, ◌≤◌, max, List, length, Option, Some, Result, Ok, Err, sym, ap, ◌∙◌, arith}
 use Rattle.std.specs.Prelude.{IfOk}
 use Rattle.mc_packet.specs.declared.walk.Level.{Level}
 use Rattle.mc_outside.specs.Shelf.{Files, Opened, content, KeepsRead}

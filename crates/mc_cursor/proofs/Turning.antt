@@ -1,7 +1,7 @@
 -- A step of the walk by what stands at its place, and how far it reads.
-use Rattle.std.proofs.Common.{◌≡◌, ℕ, ◌+◌, ◌<◌, ◌≤◌, max, Bool, true, false, List, [], length, Option, Some, None, Result, Ok, Err, refl, sym, ap, ◌∙◌, subst, arith}
+use Rattle.std.proofs.Common.{◌≡◌, ℕ, ◌+◌, ◌<◌, ◌≤◌, max, Bool, true, false, List, length, Option, Result, Ok, Err, refl, sym, ap, ◌∙◌, arith}
 use Rattle.std.proofs.lemmas.Bool.{cond_both}
-use Rattle.std.specs.Prelude.{nat_lt, ◌==◌, ◌||◌, IfOk, slice_range, if◌then◌else◌}
+use Rattle.std.specs.Prelude.{nat_lt, ◌==◌, ◌||◌, IfOk, slice_range}
 use Rattle.std.proofs.lemmas.Bool.Decides.{nat_tests}
 use Rattle.mc_packet.specs.declared.packet.Packet.{Packet}
 use Rattle.mc_packet.specs.declared.walk.Fault.{Fault}
@@ -15,22 +15,20 @@ use Rattle.mc_ebml.specs.declared.read.EbmlError.{EbmlError}
 use Rattle.mc_ebml.specs.declared.read.EbmlError.TheVariants as errors
 use Rattle.mc_ebml.specs.Element.{head_at, uint_of}
 use Rattle.mc_walk.specs.declared.plan.Plan.{Plan}
-use Rattle.mc_walk.specs.declared.plan.Step.{Step}
-use Rattle.mc_walk.specs.declared.plan.Step.TheVariants.{End, On}
+use Rattle.mc_walk.specs.declared.plan.Step.TheVariants.{End}
 use Rattle.mc_walk.specs.declared.movement.Role.{Role}
 use Rattle.mc_walk.specs.declared.movement.Role.TheVariants as roles
 use Rattle.mc_walk.specs.declared.movement.Move.{Move}
 use Rattle.mc_walk.specs.declared.movement.Move.TheVariants as moves
 use Rattle.mc_walk.specs.Moves.{settle, reenter, level_end, runs_past, opens_cluster, last_of, move_in, move_of, MovesOn, StartsBehind}
 use Rattle.mc_walk.specs.Blocks.{block_element_of}
-use Rattle.mc_walk.specs.Walk.{stands_at, stamped, blocked, time_of, passed, moved, headed, step_at}
+use Rattle.mc_walk.specs.Walk.{stands_at, stamped, blocked, time_of, passed, headed, step_at}
 use Rattle.mc_walk.proofs.Rising.{head-lies}
-use Rattle.mc_cursor.specs.declared.reading.Found.{Found}
 use Rattle.mc_cursor.specs.declared.reading.Found.TheVariants as found
 use Rattle.mc_cursor.specs.declared.step.Turn.{Turn}
 use Rattle.mc_cursor.specs.declared.step.Turn.TheVariants as turns
 use Rattle.mc_cursor.specs.Reads.{found_at, found_by}
-use Rattle.mc_cursor.specs.Steps.{bad_ending, turn_of, turned, asked_by, asked_for, TurnStarts, ReadsUpTo}
+use Rattle.mc_cursor.specs.Steps.{bad_ending, turn_of, turned, asked_for, TurnStarts, ReadsUpTo}
 
 -- ---- what a step is
 

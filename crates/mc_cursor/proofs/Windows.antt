@@ -1,11 +1,9 @@
 -- What reads at a place tell of a film.
-use Rattle.std.proofs.Common.{◌≡◌, ℕ, zero, suc, ◌+◌, ◌-◌, ◌^◌, ◌<◌, ◌≤◌, Bool, true, false, List, [], ◌∷◌, length, take, drop, Option, Some, None, refl, sym, ap, ◌∙◌, subst, arith, eq-eqb, length-take, length-drop}
-use Rattle.std.specs.Prelude.{◌==◌, nat_le, if◌then◌else◌, slice_range, IfSome}
-use Rattle.std.proofs.lemmas.List.{take_all, drop_all, length-take-le}
-use Rattle.std.proofs.lemmas.Bool.Decides.{nat_tests, eqb_tells}
-use Rattle.mc_ebml.specs.Element.{head_at}
-use Rattle.mc_outside.specs.Shelf.{Files, Opened, content, octets_under, ReadsFull, AreShort, KeepsRead}
-use Rattle.mc_cursor.specs.Reads.{found_in, found_at, found_by, moved_by}
+use Rattle.std.proofs.Common.{◌≡◌, ℕ, ◌^◌, ◌<◌, ◌≤◌, Bool, true, false, List, [], ◌∷◌, length, take, drop, Option, Some, None, refl, ap, ◌∙◌, subst, arith, length-take, length-drop}
+use Rattle.std.specs.Prelude.{◌==◌, IfSome}
+use Rattle.std.proofs.lemmas.Bool.Decides.{nat_tests}
+use Rattle.mc_outside.specs.Shelf.{Files, Opened, content, octets_under, ReadsFull, AreShort}
+use Rattle.mc_cursor.specs.Reads.{found_in, found_at}
 use Rattle.mc_cursor.proofs.Heads.{head_window}
 
 -- a told file ends before place 2^63

@@ -1,5 +1,5 @@
 -- What a film opens with, read on demand.
-use Rattle.std.specs.Prelude.{◌≡◌, ℕ, ◌+◌, ◌<◌, ◌≤◌, max, ◌==◌, if◌then◌else◌, List, length, Option, Some, None, IfSome, Result, Ok, Err, IsErrOf, ⊤}
+use Rattle.std.specs.Prelude.{◌≡◌, ℕ, ◌+◌, ◌≤◌, max, ◌==◌, if◌then◌else◌, List, Option, Some, None, IfSome, Result, Ok, Err, IsErrOf, ⊤}
 use Rattle.mc_ebml.specs.declared.read.Head.{Head}
 use Rattle.mc_ebml.specs.declared.read.Size.{Size}
 use Rattle.mc_ebml.specs.declared.read.Size.TheVariants.{Known, Unknown}
@@ -19,7 +19,7 @@ use Rattle.mc_cursor.specs.declared.error.OpenError.{OpenError}
 use Rattle.mc_cursor.specs.declared.error.OpenError.TheVariants as refusals
 use Rattle.mc_cursor.specs.declared.reading.Found.{Found}
 use Rattle.mc_cursor.specs.declared.reading.Found.TheVariants as found
-use Rattle.mc_cursor.specs.Standing.{plan_for, StandsFor}
+use Rattle.mc_cursor.specs.Standing.{StandsFor}
 
 -- A count never falls, and a read fault comes only where it rose or stands at its last value.
 pub record BeginCause {T : Type 0} (before now : ℕ) (result : Result T OpenError) : Type 0 where

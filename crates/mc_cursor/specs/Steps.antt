@@ -1,5 +1,5 @@
 -- One step of the walk on demand, and how far it may read.
-use Rattle.std.specs.Prelude.{◌≡◌, ℕ, ◌+◌, ◌<◌, ◌≤◌, max, nat_lt, if◌then◌else◌, List, [], length, slice_range, Option, Some, None, Result, Ok, Err, ⊤}
+use Rattle.std.specs.Prelude.{ℕ, ◌+◌, ◌<◌, ◌≤◌, max, nat_lt, if◌then◌else◌, List, length, slice_range, Option, Some, None, Result, Ok, Err, ⊤}
 use Rattle.mc_packet.specs.declared.packet.Packet.{Packet}
 use Rattle.mc_packet.specs.declared.walk.Fault.{Fault}
 use Rattle.mc_packet.specs.declared.walk.Fault.TheVariants as faults

@@ -24,26 +24,26 @@ const FILM: [u8; 228] = [
     0x00, 0x28, 0x00, 0x17,
 ];
 
-// Its packets: offset of the block, track, time in milliseconds, payload, and whether it is a key.
+// Its packets: offset of the block, track, time in nanoseconds, payload, and whether it is a key.
 const PACKETS: [(u64, u64, i64, u8, bool); 18] = [
     (86, 1, 0, 16, true),
     (93, 2, 0, 32, true),
-    (100, 2, 30, 33, true),
-    (107, 1, 40, 17, false),
-    (114, 2, 60, 34, true),
-    (121, 1, 80, 18, false),
-    (128, 2, 90, 35, true),
-    (143, 1, 120, 19, true),
-    (150, 2, 120, 36, true),
-    (157, 2, 150, 37, true),
-    (164, 1, 160, 20, false),
-    (171, 2, 180, 38, true),
-    (178, 1, 200, 21, false),
-    (185, 2, 210, 39, true),
-    (200, 1, 240, 22, true),
-    (207, 2, 240, 40, true),
-    (214, 2, 270, 41, true),
-    (221, 1, 280, 23, false),
+    (100, 2, 30_000_000, 33, true),
+    (107, 1, 40_000_000, 17, false),
+    (114, 2, 60_000_000, 34, true),
+    (121, 1, 80_000_000, 18, false),
+    (128, 2, 90_000_000, 35, true),
+    (143, 1, 120_000_000, 19, true),
+    (150, 2, 120_000_000, 36, true),
+    (157, 2, 150_000_000, 37, true),
+    (164, 1, 160_000_000, 20, false),
+    (171, 2, 180_000_000, 38, true),
+    (178, 1, 200_000_000, 21, false),
+    (185, 2, 210_000_000, 39, true),
+    (200, 1, 240_000_000, 22, true),
+    (207, 2, 240_000_000, 40, true),
+    (214, 2, 270_000_000, 41, true),
+    (221, 1, 280_000_000, 23, false),
 ];
 
 // A shelf with a film, whose read of the octet at a spot fails once.
@@ -67,10 +67,18 @@ fn has(chunk: &Chunk, packet: (u64, u64, i64, u8, bool)) -> bool {
     };
     p.pos == Pos { block, lane: 0 }
         && p.track == track
-        && p.time == time * 1_000_000
+        && p.time == time
         && p.key == key
         && p.sync == key
         && p.body.as_slice() == [octet].as_slice()
+}
+
+// How long the payload of its only packet is.
+fn payload_size(chunk: &Chunk) -> usize {
+    match chunk.packets.as_slice() {
+        [packet] => packet.body.len(),
+        _ => 0,
+    }
 }
 
 #[test]
@@ -97,7 +105,7 @@ fn reads_part_by_part(rt: HostRuntime) -> Result<(), Fail> {
         let wanted = BlockMark {
             track: packet.1,
             pos: packet.0,
-            time: packet.2 * 1_000_000,
+            time: packet.2,
             key: packet.4,
         };
         assert!(rt; head.block == Some(wanted) && cursor.mark() == chunk.to);
@@ -162,6 +170,6 @@ fn reads_no_payload_of_a_head(rt: HostRuntime) -> Result<(), Fail> {
     assert!(rt; failed.is_err_and(|e| e == CursorError::ReadFault));
     assert!(rt; cursor.mark() == opening && shelf.fault_count() == 1);
     let chunk = cursor.next_chunk(&mut shelf)?;
-    assert!(rt; chunk.to == head.to && chunk.packets.as_slice()[0].body.len() == 26);
+    assert!(rt; chunk.to == head.to && payload_size(&chunk) == 26);
     Ok(())
 }

@@ -1,4 +1,4 @@
-use Rattle.std.proofs.Common.{◌≡◌, ◌+◌, ◌-◌, ◌^◌, ◌≤◌, max, length, List, ℕ}
+use Rattle.std.proofs.Common.{◌≡◌, ◌+◌, ◌-◌, ◌^◌, ◌≤◌, max, length}
 use Rattle.mc_outside.specs.Shelf.{content}
 use Rattle.mc_walk.specs.Opening.{first_child}
 use Rattle.mc_cursor.specs.Causes.{Keeps}

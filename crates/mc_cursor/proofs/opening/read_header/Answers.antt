@@ -1,4 +1,4 @@
-use Rattle.std.proofs.Common.{◌≡◌, ◌≤◌, length}
+use Rattle.std.proofs.Common.{◌≤◌, length}
 use Rattle.std.specs.Prelude.{IfSome}
 use Rattle.mc_tracks.specs.Ids.{INFO, TRACKS}
 use Rattle.mc_walk.specs.Opening.{header_of}

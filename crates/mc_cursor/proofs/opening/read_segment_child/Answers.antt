@@ -1,4 +1,4 @@
-use Rattle.std.proofs.Common.{◌≡◌, ◌∙◌, sym}
+use Rattle.std.proofs.Common.{◌∙◌, sym}
 use Rattle.mc_cursor.proofs.Stepping.{content_kept}
 use Rattle.mc_cursor.proofs.Finding.{child_found, found_in_film}
 use Rattle.mc_cursor.proofs.opening.read_segment_child.Goals as goal

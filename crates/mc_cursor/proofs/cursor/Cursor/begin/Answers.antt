@@ -1,4 +1,3 @@
-use Rattle.std.proofs.Common.{◌≡◌, ◌∙◌, sym}
 use Rattle.mc_cursor.proofs.Chunks.{told_later}
 use Rattle.mc_cursor.proofs.Beginning.{begins_by, opened_by, refused_at_header, refused_at_segment, refused_at_children}
 use Rattle.mc_cursor.proofs.cursor.Cursor.begin.Goals as goal

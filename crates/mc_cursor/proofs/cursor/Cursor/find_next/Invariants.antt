@@ -1,4 +1,4 @@
-use Rattle.std.proofs.Common.{◌≡◌, ◌+◌, ◌-◌, ◌^◌, ◌<◌, ◌≤◌, List, ℕ}
+use Rattle.std.proofs.Common.{◌-◌, ◌^◌, ◌<◌, ◌≤◌}
 use Rattle.mc_outside.specs.Shelf.{content}
 use Rattle.mc_cursor.specs.Causes.{Keeps}
 use Rattle.mc_cursor.specs.Reads.{Told}

@@ -1,6 +1,6 @@
-use Rattle.std.proofs.Common.{◌≡◌, ◌∙◌, sym, false, Some}
+use Rattle.std.proofs.Common.{◌≡◌, ◌∙◌, sym, false}
 use Rattle.mc_cursor.specs.Standing.{plan_for}
-use Rattle.mc_cursor.specs.Reads.{ends_before, part_of}
+use Rattle.mc_cursor.specs.Reads.{ends_before}
 use Rattle.mc_cursor.proofs.Stepping.{content_kept}
 use Rattle.mc_cursor.proofs.Blocks.{glance_value, part_in_film}
 use Rattle.mc_cursor.proofs.cursor.Cursor.read_glance.Goals as goal

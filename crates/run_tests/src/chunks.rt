@@ -19,7 +19,11 @@ fn is_same(one: &Packet, other: &Packet) -> bool {
 }
 
 fn are_same(some: &[Packet], others: &[Packet]) -> bool {
-    some.len() == others.len() && some.iter().zip(others).all(|(one, other)| is_same(one, other))
+    some.len() == others.len()
+        && some
+            .iter()
+            .zip(others)
+            .all(|(one, other)| is_same(one, other))
 }
 
 fn is_same_chunk(one: &Chunk, other: &Chunk) -> bool {
@@ -77,7 +81,10 @@ fn chunks_joined_are_the_film(rt: HostRuntime) -> Result<(), Fail> {
     assert!(rt; reads_alike(alloc, &PLAIN));
     assert!(rt; reads_alike(alloc, &SWITCHED));
     assert!(rt; reads_alike(alloc, &USUAL));
-    let (packets, ending) = joined(alloc, &SWITCHED).unwrap_or((Packets::new(alloc), Ending::Cut(0)));
+    let (packets, ending) = joined(alloc, &SWITCHED).unwrap_or((
+        Packets::new(alloc),
+        Ending::Cut(0),
+    ));
     assert_eq!(rt; (packets.len(), ending), (10, Ending::Clean));
     Ok(())
 }
@@ -85,7 +92,15 @@ fn chunks_joined_are_the_film(rt: HostRuntime) -> Result<(), Fail> {
 #[test]
 fn chunks_of_damaged_films(rt: HostRuntime) -> Result<(), Fail> {
     let alloc = rt.alloc();
-    for (at, octet) in [(93, 0x00), (94, 0x00), (94, 0xFF), (94, 0xFE), (83, 0xEC), (87, 0x83), (91, 0x82)] {
+    for (at, octet) in [
+        (93, 0x00),
+        (94, 0x00),
+        (94, 0xFF),
+        (94, 0xFE),
+        (83, 0xEC),
+        (87, 0x83),
+        (91, 0x82),
+    ] {
         let damaged = changed(alloc, &PLAIN, PLAIN.len(), &[(at, octet)])?;
         assert!(rt; reads_alike(alloc, &damaged), "octet {at}");
     }

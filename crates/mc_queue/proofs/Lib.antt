@@ -1,2 +1,6 @@
 pub mod Rising
 pub mod FromBack
+pub mod Comparing
+pub mod Moving
+pub mod Uniting
+pub mod Differing

@@ -1,3 +1,4 @@
 pub mod Places
 pub mod Queue
+pub mod Differences
 pub mod Union

@@ -4,3 +4,4 @@ pub mod Comparing
 pub mod Moving
 pub mod Uniting
 pub mod Differing
+pub mod Filmed

@@ -2,3 +2,4 @@ pub mod Places
 pub mod Queue
 pub mod Differences
 pub mod Union
+pub mod Films

@@ -3,6 +3,7 @@ ghost use Rattle.std.specs.List.{find, list_any};
 ghost use Rattle.std.specs.Option.{option_copied};
 ghost use Rattle.mc_journal.specs.Films.{rank};
 ghost use Rattle.mc_queue.specs.declared.queue.UnionError.TheVariants.{Mismatch};
+ghost use Rattle.mc_queue.specs.Films.{UnitesFilm};
 ghost use Rattle.mc_queue.specs.Union.{Compared, Meet, UnionGives, Unites, added};
 ghost use Rattle.mc_queue.specs.Places.{before, Rise, is_from, from_place, weights};
 ghost use Rattle.mc_queue.specs.Queue.{Appends, DropsTo, IsNew, IsQueue, with_spare, first_that, last_that, is_sync, is_sync_before, is_sync_from, is_sync_upto};
@@ -213,8 +214,22 @@ impl Queue {
     /// Makes this queue both together, where their intervals meet: each packet stands in it once,
     /// and the other is left empty. It is refused with `Mismatch` exactly where the packets differ
     /// at a place that both intervals have, and with `NoMemory` only where there was less room than
-    /// packets to add; both are then as they were.
+    /// packets to add; both are then as they were. Two queues that hold exactly a film's packets of
+    /// their track in their intervals never mismatch, and together hold exactly the film's packets
+    /// of the joined interval.
     pub fn union(&mut self, other: &mut Queue) -> Result<(), UnionError>
+        requires meet { Meet self.old other.old }
+        requires fits { weights self.old.packets + weights other.old.packets < 2 ^ 64 }
+        ensures value { UnionGives self.old other.old result self.new other.new }
+        ensures film { UnitesFilm self.old other.old result self.new }
+        ensures queue { IsQueue self.new }
+    {
+        // The interval of a queue is in order.
+        let _ = &self.from;
+        self.unite(other)
+    }
+
+    fn unite(&mut self, other: &mut Queue) -> Result<(), UnionError>
         requires meet { Meet self.old other.old }
         requires fits { weights self.old.packets + weights other.old.packets < 2 ^ 64 }
         ensures value { UnionGives self.old other.old result self.new other.new }

@@ -1,8 +1,8 @@
 -- Queues that hold a film's packets: parts of the film from place to place, and what keeps a queue so.
-use Rattle.std.proofs.Common.{◌≡◌, ℕ, ◌+◌, ◌<◌, ◌≤◌, ◌==◌, Bool, true, false, ◌&&◌, List, [], ◌∷◌, ◌++◌, arith, refl, ap, subst, sym, ◌∙◌, inl, inr}
-use Rattle.std.specs.Prelude.{nat_le, Option, Some, None, Result, Ok, Err}
-use Rattle.std.specs.List.{filter, find, AllByRecursion}
-use Rattle.std.proofs.lemmas.Bool.{cases_Bool, cases_lt, leb-true, leb-false, ltb-true, ltb-false, le-leb, lt-leb, lt-ltb, le-ltb, ne_eqb, true≢false}
+use Rattle.std.proofs.Common.{◌≡◌, ℕ, ◌<◌, ◌≤◌, ◌==◌, Bool, true, false, ◌&&◌, List, [], ◌∷◌, ◌++◌, arith, refl, ap, subst, sym, ◌∙◌, inl, inr}
+use Rattle.std.specs.Prelude.{nat_le, Result, Ok, Err}
+use Rattle.std.specs.List.{filter, AllByRecursion}
+use Rattle.std.proofs.lemmas.Bool.{cases_Bool, cases_lt, leb-true, leb-false, le-leb, lt-leb, lt-ltb, le-ltb, ne_eqb, true≢false}
 use Rattle.mc_packet.specs.declared.packet.Packet.{Packet}
 use Rattle.mc_packet.specs.declared.packet.Pos.{Pos}
 use Rattle.mc_journal.specs.Films.{rank}
@@ -13,7 +13,7 @@ use Rattle.mc_queue.specs.Queue.{QueueState}
 use Rattle.mc_queue.specs.Differences.{time_at}
 use Rattle.mc_queue.specs.Union.{Meet, earlier, later, shared_from, shared_to, united, UnionGives}
 use Rattle.mc_queue.proofs.Uniting.{earlier_least, later_greatest}
-use Rattle.mc_queue.specs.Films.{PlacesRise, of_track, Holds, StillHolds, UnitesFilm}
+use Rattle.mc_queue.specs.Films.{PlacesRise, of_track, Holds, UnitesFilm}
 
 -- ---- parts of a list
 
@@ -55,19 +55,19 @@ before_within from to cut (p ∷ ps) l =
     elim (cases_lt (place p) from) [
       | inl m ↦ let a = too_low from to p m in let b = too_low from cut p m in rw (a, b) more
       | inr m ↦ elim (cases_lt (place p) cut) [
-          | inl k ↦
-              let a = inside from to p m (omega arith) in
-              let b = inside from cut p m k in
-              let c = lt-ltb (place p) cut k in
-              rw (a, b, c) (ap (λ qs. p ∷ qs) more)
-          | inr k ↦
-              let b = too_high from cut p k in
-              let c = le-ltb (place p) cut k in
-              elim (cases_lt (place p) to) [
-                | inl i ↦ let a = inside from to p m i in rw (a, b, c) more
-                | inr i ↦ let a = too_high from to p i in rw (a, b) more
-              ]
-        ]
+        | inl k ↦
+            let a = inside from to p m (omega arith) in
+            let b = inside from cut p m k in
+            let c = lt-ltb (place p) cut k in
+            rw (a, b, c) (ap (λ qs. p ∷ qs) more)
+        | inr k ↦
+            let b = too_high from cut p k in
+            let c = le-ltb (place p) cut k in
+            elim (cases_lt (place p) to) [
+              | inl i ↦ let a = inside from to p m i in rw (a, b, c) more
+              | inr i ↦ let a = too_high from to p i in rw (a, b) more
+            ]
+      ]
     ]
 
 from_within : (from to cut : ℕ) (ps : List Packet) → from ≤ cut → from_place cut (within from to ps) ≡ within cut to ps
@@ -102,23 +102,23 @@ two_parts from mid to (p ∷ ps) l m r =
           let c = too_low mid to p (omega arith) in
           rw (a, b, c) more
       | inr k ↦ elim (cases_lt (place p) mid) [
-          | inl i ↦
-              let a = inside from to p k (omega arith) in
-              let b = inside from mid p k i in
-              let c = too_low mid to p i in
-              rw (a, b, c) (ap (λ qs. p ∷ qs) more)
-          | inr i ↦
-              let b = too_high from mid p i in
-              let z : within from mid ps ≡ [] = none_low from mid (place p) ps i r.0 in
-              let rest : within from to ps ≡ within mid to ps = more ∙ ap (λ qs. qs ++ within mid to ps) z in
-              elim (cases_lt (place p) to) [
-                | inl j ↦
-                    let a = inside from to p k j in
-                    let c = inside mid to p i j in
-                    rw (a, b, c, z) (ap (λ qs. p ∷ qs) rest)
-                | inr j ↦ let a = too_high from to p j in let c = too_high mid to p j in rw (a, b, c) more
-              ]
-        ]
+        | inl i ↦
+            let a = inside from to p k (omega arith) in
+            let b = inside from mid p k i in
+            let c = too_low mid to p i in
+            rw (a, b, c) (ap (λ qs. p ∷ qs) more)
+        | inr i ↦
+            let b = too_high from mid p i in
+            let z : within from mid ps ≡ [] = none_low from mid (place p) ps i r.0 in
+            let rest : within from to ps ≡ within mid to ps = more ∙ ap (λ qs. qs ++ within mid to ps) z in
+            elim (cases_lt (place p) to) [
+              | inl j ↦
+                  let a = inside from to p k j in
+                  let c = inside mid to p i j in
+                  rw (a, b, c, z) (ap (λ qs. p ∷ qs) rest)
+              | inr j ↦ let a = too_high from to p j in let c = too_high mid to p j in rw (a, b, c) more
+            ]
+      ]
     ]
 
 -- ---- a film's packets of a track

@@ -10,6 +10,8 @@ mod merging;
 mod parts;
 mod place;
 mod queue;
+#[cfg(test)]
+mod tests;
 
 pub use mc_packet::NoMemory;
 pub use queue::{Queue, UnionError};

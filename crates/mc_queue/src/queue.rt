@@ -1,0 +1,296 @@
+ghost use Rattle.std.specs.Prelude.{◌≡◌, ℕ, ◌+◌, ◌-◌, ◌<◌, ◌≤◌, ◌^◌, ◌++◌, [], length, IfOk, OnErr, OnOk};
+ghost use Rattle.std.specs.List.{find, list_any};
+ghost use Rattle.std.specs.Option.{option_copied};
+ghost use Rattle.mc_journal.specs.Films.{rank};
+ghost use Rattle.mc_queue.specs.declared.queue.UnionError.TheVariants.{Mismatch};
+ghost use Rattle.mc_queue.specs.Films.{AppendsFilm, KeepsFilm, UnitesFilm};
+ghost use Rattle.mc_queue.specs.Union.{Compared, Meet, UnionGives, Unites, added};
+ghost use Rattle.mc_queue.specs.Places.{before, Rise, is_from, from_place, weights};
+ghost use Rattle.mc_queue.specs.Queue.{Appends, DropsTo, IsNew, IsQueue, with_spare, first_that, last_that, is_sync, is_sync_before, is_sync_from, is_sync_upto};
+
+use crate::differences::{Difference, compare};
+use crate::lookups;
+use crate::merging::{count_outside, merge, weight_outside};
+use crate::parts::{add_behind, drop_before, make_room, weight_behind, weight_of_all};
+use crate::place::{earlier, later};
+use mc_packet::{NoMemory, Packet, Packets, Pos, TrackNo};
+use std::alloc::Global;
+use std::collections::VecDeque;
+use std::marker::Model;
+
+/// Why two queues were not united.
+#[derive(Clone, Copy, Debug, PartialEq, Eq)]
+pub enum UnionError {
+    /// There was no memory for the other's packets.
+    NoMemory,
+    /// The first place that both intervals have at which the packets differ, with the time that
+    /// each has there, in nanoseconds.
+    Mismatch {
+        pos: Pos,
+        ours: Option<i64>,
+        other: Option<i64>,
+    },
+}
+
+/// All packets of one track from one place of the film up to, but without, another, in file order.
+/// `append`, `reserve` and `union` alone take memory.
+#[derive(Drop)]
+pub struct Queue {
+    track: TrackNo,
+    from: Pos,
+    to: Pos,
+    packets: VecDeque<Packet>,
+    weight: u64,
+}
+
+impl Model for Queue {
+    ghost use Rattle.std.specs.Prelude.{◌≡◌, ◌-◌, ◌<◌, ◌^◌};
+    ghost use Rattle.std.specs.VecDeque.{deque_capacity, deque_len};
+    ghost use Rattle.mc_journal.specs.Films.{rank};
+    ghost use Rattle.mc_queue.specs.Places.{Rise, weights};
+    ghost use Rattle.mc_queue.specs.Queue.{QueueState};
+
+    ghost Value = { QueueState };
+
+    ghost view = { λ q. record { track = q.track; from = q.from; to = q.to; packets = q.packets.items; spare = deque_capacity q.packets - deque_len q.packets } };
+
+    ghost invariant = { λ q. (q.weight ≡ weights q.packets.items) × (weights q.packets.items < 2 ^ 64) × Rise q.track (rank q.from) (rank q.to) q.packets.items };
+}
+
+impl Queue {
+    /// An empty queue of the track, which begins and ends at a place.
+    pub fn new(alloc: Global, track: TrackNo, at: Pos) -> Queue
+        ensures value { IsNew track at result }
+        ensures queue { IsQueue result }
+    {
+        Queue {
+            track,
+            from: at,
+            to: at,
+            packets: VecDeque::new(alloc),
+            weight: 0,
+        }
+    }
+
+    /// The track.
+    pub fn track(&self) -> TrackNo
+        ensures value { result ≡ self.now.track }
+        ensures queue { IsQueue self.now }
+    {
+        self.track
+    }
+
+    /// The place at which the interval begins.
+    pub fn from(&self) -> Pos
+        ensures value { result ≡ self.now.from }
+        ensures queue { IsQueue self.now }
+    {
+        self.from
+    }
+
+    /// The place up to which the interval reaches, and which it does not have.
+    pub fn to(&self) -> Pos
+        ensures value { result ≡ self.now.to }
+        ensures queue { IsQueue self.now }
+    {
+        self.to
+    }
+
+    /// The number of packets.
+    pub fn len(&self) -> u64
+        ensures value { result ≡ length self.now.packets }
+        ensures queue { IsQueue self.now }
+    {
+        self.packets.len() as u64
+    }
+
+    /// What the packets count for in a cache, in octets: of each its payload and 64 more.
+    pub fn weight(&self) -> u64
+        ensures value { result ≡ weights self.now.packets }
+        ensures queue { IsQueue self.now }
+    {
+        self.weight
+    }
+
+    /// The same of the packets at or behind a place.
+    pub fn weight_from(&self, head: Pos) -> u64
+        ensures { result ≡ weights (from_place (rank head) self.now.packets) }
+    {
+        weight_behind(&self.packets, head)
+    }
+
+    /// Makes room for so many more packets than there are, and changes nothing else. `NoMemory`
+    /// comes only where there was less room, and the queue is then as it was.
+    pub fn reserve(&mut self, more: u64) -> Result<(), NoMemory>
+        ensures same { self.new ≡ with_spare self.old self.new.spare }
+        ensures ok { OnOk result (more ≤ self.new.spare) }
+        ensures err { OnErr result (self.new.spare ≡ self.old.spare) }
+        ensures within { OnErr result (self.old.spare < more) }
+        ensures roomier { self.old.spare ≤ self.new.spare }
+    {
+        make_room(&mut self.packets, more as usize)
+    }
+
+    /// Puts packets behind the others, and lets the interval reach up to `upto`. `NoMemory` comes
+    /// only where there was less room than packets, and the queue is then as it was.
+    pub fn append(&mut self, upto: Pos, packets: Packets) -> Result<(), NoMemory>
+        requires rise { Rise self.old.track (rank self.old.to) (rank upto) packets }
+        requires fits { weights self.old.packets + weights packets < 2 ^ 64 }
+        ensures ok { OnOk result (Appends upto packets self.old self.new) }
+        ensures err { OnErr result ((self.new ≡ self.old) × (self.old.spare < length packets)) }
+        ensures film { OnOk result (AppendsFilm self.old upto packets self.new) }
+        ensures queue { IsQueue self.new }
+    {
+        let weight = weight_of_all(packets.as_slice());
+        add_behind(&mut self.packets, packets)?;
+        self.weight += weight;
+        self.to = upto;
+        Ok(())
+    }
+
+    /// Drops the packets before `cut`, at which the interval then begins, and gives the weight of
+    /// those dropped. It takes no memory, and takes constant time for each of them.
+    pub fn drop_upto(&mut self, cut: Pos) -> u64
+        requires after { rank self.old.from ≤ rank cut }
+        requires before { rank cut ≤ rank self.old.to }
+        ensures dropped { DropsTo cut self.old self.new }
+        ensures film { KeepsFilm self.old self.new }
+        ensures weight { result + weights self.new.packets ≡ weights self.old.packets }
+        ensures queue { IsQueue self.new }
+    {
+        let dropped = drop_before(&mut self.packets, cut);
+        self.weight -= dropped;
+        self.from = cut;
+        dropped
+    }
+
+    /// The first packet at or behind a place.
+    pub fn first_at(&self, head: Pos) -> Option<&Packet>
+        ensures { option_copied result ≡ find (is_from (rank head)) self.now.packets }
+    {
+        lookups::first_at(&self.packets, head)
+    }
+
+    /// The place of the last sync point, in file order, with a time of at most `t` nanoseconds.
+    pub fn last_sync_upto(&self, t: i64) -> Option<Pos>
+        ensures { result ≡ last_that (is_sync_upto t) self.now.packets }
+    {
+        lookups::last_sync_upto(&self.packets, t)
+    }
+
+    /// Whether a sync point has a time of at least `t` nanoseconds.
+    pub fn has_sync_from(&self, t: i64) -> bool
+        ensures { result ≡ list_any (is_sync_from t) self.now.packets }
+    {
+        lookups::has_sync_from(&self.packets, t)
+    }
+
+    /// The place of the first sync point, in file order.
+    pub fn first_sync(&self) -> Option<Pos>
+        ensures { result ≡ first_that is_sync self.now.packets }
+    {
+        lookups::first_sync(&self.packets)
+    }
+
+    /// The place of the first sync point, in file order, with a time of at least `t` nanoseconds.
+    pub fn first_sync_from(&self, t: i64) -> Option<Pos>
+        ensures { result ≡ first_that (is_sync_from t) self.now.packets }
+    {
+        lookups::first_sync_from(&self.packets, t)
+    }
+
+    /// The place of the last sync point, in file order.
+    pub fn last_sync(&self) -> Option<Pos>
+        ensures { result ≡ last_that is_sync self.now.packets }
+    {
+        lookups::last_sync(&self.packets)
+    }
+
+    /// Whether a sync point has a time below `t` nanoseconds.
+    pub fn has_sync_before(&self, t: i64) -> bool
+        ensures { result ≡ list_any (is_sync_before t) self.now.packets }
+    {
+        lookups::has_sync_before(&self.packets, t)
+    }
+
+    /// Makes this queue both together, where their intervals meet: each packet stands in it once,
+    /// and the other is left empty. It is refused with `Mismatch` exactly where the packets differ
+    /// at a place that both intervals have, and with `NoMemory` only where there was less room than
+    /// packets to add; both are then as they were. Two queues that hold exactly a film's packets of
+    /// their track in their intervals never mismatch, and together hold exactly the film's packets
+    /// of the joined interval.
+    pub fn union(&mut self, other: &mut Queue) -> Result<(), UnionError>
+        requires meet { Meet self.old other.old }
+        requires fits { weights self.old.packets + weights other.old.packets < 2 ^ 64 }
+        ensures value { UnionGives self.old other.old result self.new other.new }
+        ensures film { UnitesFilm self.old other.old result self.new }
+        ensures queue { IsQueue self.new }
+    {
+        // The interval of a queue is in order.
+        let _ = &self.from;
+        self.unite(other)
+    }
+
+    fn unite(&mut self, other: &mut Queue) -> Result<(), UnionError>
+        requires meet { Meet self.old other.old }
+        requires fits { weights self.old.packets + weights other.old.packets < 2 ^ 64 }
+        ensures value { UnionGives self.old other.old result self.new other.new }
+        ensures queue { IsQueue self.new }
+    {
+        if let Some(difference) = self.difference(other) {
+            return Err(mismatch(difference));
+        }
+        let more = self.added(other);
+        if make_room(&mut self.packets, more).is_err() {
+            return Err(UnionError::NoMemory);
+        }
+        self.absorb(other);
+        Ok(())
+    }
+
+    fn difference(&self, other: &Queue) -> Option<Difference>
+        requires meet { Meet self.now other.now }
+        ensures { Compared self.now other.now result }
+    {
+        compare(
+            &self.packets,
+            &other.packets,
+            later(self.from, other.from),
+            earlier(self.to, other.to),
+        )
+    }
+
+    /// How many packets of the other stand outside this interval.
+    fn added(&self, other: &Queue) -> usize
+        requires meet { Meet self.now other.now }
+        ensures { result ≡ added self.now other.now }
+    {
+        count_outside(&other.packets, self.from, self.to)
+    }
+
+    /// Takes the other's packets that stand outside this interval, into the room that there is.
+    fn absorb(&mut self, other: &mut Queue)
+        requires meet { Meet self.old other.old }
+        requires fits { weights self.old.packets + weights other.old.packets < 2 ^ 64 }
+        requires room { added self.old other.old ≤ self.old.spare }
+        ensures value { Unites self.old other.old self.new other.new }
+        ensures queue { IsQueue self.new }
+    {
+        self.weight += weight_outside(&other.packets, self.from, self.to);
+        merge(&mut self.packets, &mut other.packets, self.from, self.to);
+        self.from = earlier(self.from, other.from);
+        self.to = later(self.to, other.to);
+        other.to = other.from;
+        other.weight = 0;
+    }
+}
+
+fn mismatch(difference: Difference) -> UnionError
+    ensures { result ≡ Mismatch difference.pos difference.ours difference.other }
+{
+    UnionError::Mismatch {
+        pos: difference.pos,
+        ours: difference.ours,
+        other: difference.other,
+    }
+}

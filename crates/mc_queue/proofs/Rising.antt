@@ -1,0 +1,104 @@
+-- Packets in rising order: parts of them, and lists of them behind one another.
+use Rattle.std.proofs.Common.{◌≡◌, ℕ, ◌+◌, ◌*◌, ◌^◌, ◌<◌, ◌≤◌, Bool, not, get_or, List, [], ◌∷◌, ◌++◌, length, take, arith, refl, ap, subst, sym, ◌∙◌, inl, inr}
+use Rattle.std.specs.List.{filter}
+use Rattle.std.proofs.lemmas.Bool.{cases_Bool, ltb-true, ltb-false, leb-true, le-leb, lt-leb}
+use Rattle.std.proofs.lemmas.List.Sums.{sum_by-append, sum_by_more_le}
+use Rattle.std.proofs.lemmas.List.Filters.{sum_by-filter_both}
+use Rattle.mc_packet.specs.declared.packet.Packet.{Packet}
+use Rattle.mc_packet.specs.declared.packet.Pos.{Pos}
+use Rattle.mc_journal.specs.Films.{rank}
+use Rattle.mc_queue.specs.Places.{place, weight_of, weights, Rise, is_before, is_from, from_place, behind}
+
+pub rank_is : (p : Pos) → rank p ≡ p.block * 65536 + p.lane
+unfolding rank
+rank_is p = refl
+
+-- an interval may begin earlier
+pub rise_earlier : (track from from' to : ℕ) (ps : List Packet) → from' ≤ from → Rise track from to ps → Rise track from' to ps
+rise_earlier track from from' to [] l r = omega arith
+rise_earlier track from from' to (p ∷ ps) l r = let m = r.1 in (r.0, omega arith, r.2)
+
+-- and end later
+pub rise_later : (track from to to' : ℕ) (ps : List Packet) → to ≤ to' → Rise track from to ps → Rise track from to' ps
+rise_later track from to to' [] l r = omega arith
+rise_later track from to to' (p ∷ ps) l r = (r.0, r.1, rise_later track (place p + 1) to to' ps l r.2)
+
+-- it begins at its end or before
+pub rise_bounds : (track from to : ℕ) (ps : List Packet) → Rise track from to ps → from ≤ to
+rise_bounds track from to [] r = r
+rise_bounds track from to (p ∷ ps) r = let m = r.1 in let n = rise_bounds track (place p + 1) to ps r.2 in omega arith
+
+-- packets up to a place, and then packets from it on
+pub rise_append : (track from mid to : ℕ) (ps qs : List Packet) → Rise track from mid ps → Rise track mid to qs → Rise track from to (ps ++ qs)
+rise_append track from mid to [] qs r s = rise_earlier track mid from to qs r s
+rise_append track from mid to (p ∷ ps) qs r s = (r.0, r.1, rise_append track (place p + 1) mid to ps qs r.2 s)
+
+-- where the first one stands at a place or behind it, all do
+pub all_from : (track from to cut : ℕ) (ps : List Packet) → cut ≤ from → Rise track from to ps → from_place cut ps ≡ ps
+all_from track from to cut [] l r = refl
+all_from track from to cut (p ∷ ps) l r =
+    let m = r.1 in
+    let y = le-leb cut (place p) (omega arith) in
+    rw y (ap (λ qs. p ∷ qs) (all_from track (place p + 1) to cut ps (omega arith) r.2))
+
+-- leaving out those in front that stand before a place leaves out all of them
+pub behind_is : (track from to cut : ℕ) (ps : List Packet) → Rise track from to ps → behind cut ps ≡ from_place cut ps
+behind_is track from to cut [] r = refl
+behind_is track from to cut (p ∷ ps) r = elim (cases_Bool (is_before cut p)) [
+  | inl y ↦
+      let l = ltb-true (place p) cut y in
+      let n = lt-leb cut (place p) l in
+      rw (y, n) (behind_is track (place p + 1) to cut ps r.2)
+  | inr n ↦
+      let l = ltb-false (place p) cut n in
+      rw n (sym (all_from track (place p) to cut (p ∷ ps) l (r.0, omega arith, r.2)))
+]
+
+-- what stands at a place of the interval or behind it begins there
+pub rise_from : (track from to cut : ℕ) (ps : List Packet) → cut ≤ to → Rise track from to ps → Rise track cut to (from_place cut ps)
+rise_from track from to cut [] l r = l
+rise_from track from to cut (p ∷ ps) l r = elim (cases_Bool (is_from cut p)) [
+  | inl y ↦
+      let m = leb-true cut (place p) y in
+      let all = all_from track (place p + 1) to cut ps (omega arith) r.2 in
+      rw (y, all) (r.0, m, r.2)
+  | inr n ↦ rw n (rise_from track (place p + 1) to cut ps l r.2)
+]
+
+-- ---- weights
+
+pub more_weight : (ps : List Packet) (i : ℕ) (d : Packet) → i < length ps → weights (take i ps) + weight_of (get_or ps i d) ≤ weights ps
+more_weight ps i d l = sum_by_more_le weight_of ps i d l
+
+pub less_weight : (t : Packet → Bool) (ps : List Packet) → weights (filter t ps) ≤ weights ps
+less_weight t ps = let both = sum_by-filter_both t (λ p. not (t p)) (λ _. refl) weight_of ps in omega arith
+
+pub more_weight_of_some : (t : Packet → Bool) (ps : List Packet) (i : ℕ) (d : Packet) → i < length ps → weights (filter t (take i ps)) + weight_of (get_or ps i d) ≤ weights ps
+more_weight_of_some t ps i d l = let a = less_weight t (take i ps) in let b = more_weight ps i d l in omega arith
+
+pub weights_of_two : (ps qs : List Packet) → weights (ps ++ qs) ≡ weights ps + weights qs
+weights_of_two ps qs = sum_by-append weight_of ps qs
+
+pub from_two : (cut : ℕ) (ps qs : List Packet) → from_place cut (ps ++ qs) ≡ from_place cut ps ++ from_place cut qs
+from_two cut [] qs = refl
+from_two cut (p ∷ ps) qs = elim (cases_Bool (is_from cut p)) [
+  | inl y ↦ rw y (ap (λ rs. p ∷ rs) (from_two cut ps qs))
+  | inr n ↦ rw n (from_two cut ps qs)
+]
+
+pub less_weight_from : (cut : ℕ) (ps : List Packet) → weights (from_place cut ps) ≤ weights ps
+less_weight_from cut ps = less_weight (is_from cut) ps
+
+-- what becomes of a queue's packets when others are put behind them
+pub grown : (track from to upto : ℕ) (old added new : List Packet) → new ≡ old ++ added → Rise track from to old → Rise track to upto added
+    → weights old + weights added < 2 ^ 64 → (weights new ≡ weights old + weights added) × (weights new < 2 ^ 64) × Rise track from upto new
+grown track from to upto old added new e r s l =
+    let w : weights new ≡ weights old + weights added = ap (λ ps. weights ps) e ∙ weights_of_two old added in
+    (w, omega arith, subst (λ ps. Rise track from upto ps) (sym e) (rise_append track from to upto old added r s))
+
+-- and when those before a place are dropped
+pub shrunk : (track from to cut : ℕ) (old new : List Packet) → new ≡ behind cut old → Rise track from to old → cut ≤ to
+    → (new ≡ from_place cut old) × Rise track cut to new
+shrunk track from to cut old new e r l =
+    let f : new ≡ from_place cut old = e ∙ behind_is track from to cut old r in
+    (f, subst (λ ps. Rise track cut to ps) (sym f) (rise_from track from to cut old l r))

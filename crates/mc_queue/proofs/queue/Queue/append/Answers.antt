@@ -1,0 +1,25 @@
+use Rattle.std.proofs.Common.{◌+◌, ◌<◌, ◌^◌, arith, ap, subst, sym, ◌∙◌}
+use Rattle.mc_journal.specs.Films.{rank}
+use Rattle.mc_queue.specs.Places.{Rise, weights}
+use Rattle.mc_queue.specs.Queue.{QueueState}
+use Rattle.mc_queue.proofs.Rising.{grown}
+use Rattle.mc_queue.proofs.queue.Queue.append.Goals as goal
+
+-- src/queue.rt:116:5
+pub invariant_of-self-2 : goal.invariant_of-self-2
+invariant_of-self-2 c =
+    let r = subst (λ (q : QueueState). Rise q.track (rank q.to) (rank c.args.upto) c.args.packets) (sym c.self.view_is) c.requires.rise in
+    let f = subst (λ (q : QueueState). weights q.packets + weights c.args.packets < 2 ^ 64) (sym c.self.view_is) c.requires.fits in
+    let g = grown _ _ _ _ _ _ _ c.in_ok-add_behind.ensures.ok c.self.invariant.2 r f in
+    let w = g.0 in
+    let o = c.weight_of_all-weight.ensures ∙ ap (λ ps. weights ps) c.as_slice.ensures in
+    let i = c.self.invariant.0 in
+    (omega arith, g.1, g.2)
+
+-- src/queue.rt:116:5
+pub returns-clause-queue : goal.returns-clause-queue
+returns-clause-queue c =
+    let r = subst (λ (q : QueueState). Rise q.track (rank q.to) (rank c.args.upto) c.args.packets) (sym c.self.view_is) c.requires.rise in
+    let f = subst (λ (q : QueueState). weights q.packets + weights c.args.packets < 2 ^ 64) (sym c.self.view_is) c.requires.fits in
+    let g = grown _ _ _ _ _ _ _ c.in_ok-add_behind.ensures.ok c.self.invariant.2 r f in
+    record { rise = g.2; fits = g.1 }

@@ -1,0 +1,38 @@
+use Rattle.std.proofs.Common.{◌-◌, ◌≤◌, arith, subst, sym, ap}
+use Rattle.std.specs.VecDeque.{deque_capacity, deque_len}
+use Rattle.mc_journal.specs.Films.{rank}
+use Rattle.mc_queue.specs.Queue.{QueueState}
+use Rattle.mc_queue.proofs.Rising.{shrunk}
+use Rattle.mc_queue.proofs.queue.Queue.drop_upto.Goals as goal
+
+-- src/queue.rt:132:5
+pub invariant_of-self : goal.invariant_of-self
+invariant_of-self c =
+    let l = subst (λ (q : QueueState). rank c.args.cut ≤ rank q.to) (sym c.self.view_is) c.requires.before in
+    let s = shrunk _ _ _ _ _ _ c.drop_before-dropped.ensures.items c.self.invariant.2 l in
+    let w = c.drop_before-dropped.ensures.weight in
+    let i = c.self.invariant.0 in
+    let j = c.self.invariant.1 in
+    (omega arith, omega arith, s.1)
+
+-- src/queue.rt:132:5
+pub returns-clause-dropped : goal.returns-clause-dropped
+returns-clause-dropped c =
+    let l = subst (λ (q : QueueState). rank c.args.cut ≤ rank q.to) (sym c.self.view_is) c.requires.before in
+    let s = shrunk _ _ _ _ _ _ c.drop_before-dropped.ensures.items c.self.invariant.2 l in
+    let n = c.drop_before-dropped.new.packets in
+    let a = c.drop_before-dropped.ensures.len in
+    let b = c.drop_before-dropped.ensures.capacity in
+    rw (← c.self.view_is) (record {
+      packets_left = ap (λ ps. record { track = c.self.inside.track; from = c.args.cut; to = c.self.inside.to; packets = ps; spare = deque_capacity n - deque_len n }) s.0;
+      roomier = omega arith;
+    })
+
+-- src/queue.rt:132:5
+pub returns-clause-queue : goal.returns-clause-queue
+returns-clause-queue c =
+    let l = subst (λ (q : QueueState). rank c.args.cut ≤ rank q.to) (sym c.self.view_is) c.requires.before in
+    let s = shrunk _ _ _ _ _ _ c.drop_before-dropped.ensures.items c.self.invariant.2 l in
+    let w = c.drop_before-dropped.ensures.weight in
+    let j = c.self.invariant.1 in
+    record { rise = s.1; fits = omega arith }

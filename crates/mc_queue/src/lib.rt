@@ -1,0 +1,13 @@
+//! A queue of one track's packets: all that were read of the track from one place of the film up
+//! to another, in file order. It takes packets behind the others, drops them from the front, is
+//! united with another queue that it meets, and answers where its sync points stand. Contracts see
+//! it as its track, its interval, its list of packets and its spare room (`specs/Queue`).
+#![tactic(auto)]
+
+mod lookups;
+mod parts;
+mod place;
+mod queue;
+
+pub use mc_packet::NoMemory;
+pub use queue::Queue;

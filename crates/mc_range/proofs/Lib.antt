@@ -1,0 +1,5 @@
+pub mod Places
+pub mod Beginning
+pub mod Fresh
+pub mod Owners
+pub mod Shapes

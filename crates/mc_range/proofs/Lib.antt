@@ -3,3 +3,5 @@ pub mod Beginning
 pub mod Fresh
 pub mod Owners
 pub mod Shapes
+pub mod Found
+pub mod Films

@@ -15,6 +15,9 @@ pub lane_is : (n : ℕ) → first_lane n ≡ n * 65536
 unfolding first_lane
 lane_is n = refl
 
+pub same_lane : (n : ℕ) → rank (place_at n) ≡ first_lane n
+same_lane n = let a = lane_is n in let b = rank_is (place_at n) in omega arith
+
 -- a mark's place is at or before one behind it
 pub lane_upto : (m n : ℕ) → m ≤ n → first_lane m ≤ rank (place_at n)
 lane_upto m n l =

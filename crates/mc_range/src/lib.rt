@@ -6,9 +6,12 @@
 #![tactic(auto)]
 
 mod growing;
+mod law;
 mod place;
 mod queues;
 mod range;
+mod serving;
 
+pub use law::served_films;
 pub use mc_packet::NoMemory;
 pub use range::Range;

@@ -1,5 +1,5 @@
-ghost use Rattle.std.specs.Prelude.{◌≡◌, nat_le, nat_lt};
-ghost use Rattle.mc_journal.specs.Films.{rank};
+ghost use Rattle.std.specs.Prelude.{◌≡◌, ◌==◌, nat_le, nat_lt};
+ghost use Rattle.mc_journal.specs.Films.{first_lane, rank};
 ghost use Rattle.mc_range.specs.Range.{place_at};
 
 use mc_packet::Pos;
@@ -24,9 +24,23 @@ pub(crate) fn is_upto(p: Pos, q: Pos) -> bool
     rank_of(p) <= rank_of(q)
 }
 
+pub(crate) fn is_start(p: Pos) -> bool
+    ensures { result ≡ (rank p == 0) }
+{
+    rank_of(p) == 0
+}
+
 /// The place of frame 0 of a block.
 pub(crate) fn place_at(block: u64) -> Pos
     ensures { result ≡ place_at block }
 {
     Pos { block, lane: 0 }
+}
+
+/// The same, told as a number.
+#[tactic(auto, using(crate::proofs::Places::same_lane))]
+pub(crate) fn first_lane(block: u64) -> Pos
+    ensures { rank result ≡ first_lane block }
+{
+    place_at(block)
 }

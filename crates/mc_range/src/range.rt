@@ -2,13 +2,15 @@ ghost use Rattle.std.specs.Prelude.{◌≡◌, ◌≤◌, ◌<◌, ◌+◌, ◌^
 ghost use Rattle.mc_journal.specs.Choices.{is_distinct, or_else};
 ghost use Rattle.mc_range.specs.Range.{AtMark, IsBegun, IsRange, IsRoomier, count, is_same, is_same_set, meets_range, queue_of, weight_of_all};
 ghost use Rattle.mc_range.specs.Growing.{IsFed, lacks_room, taker};
+ghost use Rattle.mc_range.specs.Serving.{heads_of};
 ghost use Rattle.mc_packet.specs.Shape.{HasShape};
 ghost use Rattle.mc_queue.specs.Places.{weights};
 
 use crate::growing::extend;
 use crate::place::place_at;
 use crate::queues::{Queues, find, reserve, start_queue, touch_all};
-use mc_packet::{Choice, Chunk, Ending, Mark, NoMemory, Starts, TrackNo};
+use crate::serving::serve;
+use mc_packet::{Choice, Chunk, Dir, Ending, Heads, Mark, NoMemory, Starts, TrackNo};
 use std::alloc::Global;
 use std::marker::Model;
 
@@ -129,6 +131,15 @@ impl Range {
         self.mark = to;
         self.ending = later_ending(ending, self.ending);
         Ok(taken)
+    }
+
+    /// From where each track is read on after a seek to `t` nanoseconds, where the range serves it: it
+    /// then holds what shows that these are the starts over the whole film. `None` exactly where it
+    /// does not. It takes no memory.
+    pub fn serves(&self, set: Choice, t: i64, dir: Dir) -> Option<Heads>
+        ensures { result ≡ heads_of self.now set t dir }
+    {
+        serve(&self.queues, self.ending.is_some(), set, t, dir)
     }
 
     /// Whether the two are of one set, both have a queue for each of its tracks, and each of those

@@ -1,13 +1,13 @@
 -- Packets in rising order: parts of them, and lists of them behind one another.
-use Rattle.std.proofs.Common.{◌≡◌, ℕ, ◌+◌, ◌*◌, ◌^◌, ◌<◌, ◌≤◌, Bool, not, get_or, List, [], ◌∷◌, ◌++◌, length, take, arith, refl, ap, subst, sym, ◌∙◌, inl, inr}
+use Rattle.std.proofs.Common.{drop, lt-ltb, le-ltb, ◌≡◌, ℕ, ◌+◌, ◌*◌, ◌^◌, ◌<◌, ◌≤◌, Bool, not, get_or, List, [], ◌∷◌, ◌++◌, length, take, arith, refl, ap, subst, sym, ◌∙◌, inl, inr}
 use Rattle.std.specs.List.{filter}
 use Rattle.std.proofs.lemmas.Bool.{cases_Bool, ltb-true, ltb-false, leb-true, le-leb, lt-leb}
-use Rattle.std.proofs.lemmas.List.Sums.{sum_by-append, sum_by_more_le}
-use Rattle.std.proofs.lemmas.List.Filters.{sum_by-filter_both}
+use Rattle.std.proofs.lemmas.List.Sums.{sum_by-cons, sum_by-append, sum_by_more_le}
+use Rattle.std.proofs.lemmas.List.Filters.{sum_by-filter_both, length-filter_both}
 use Rattle.mc_packet.specs.declared.packet.Packet.{Packet}
 use Rattle.mc_packet.specs.declared.packet.Pos.{Pos}
 use Rattle.mc_journal.specs.Films.{rank}
-use Rattle.mc_queue.specs.Places.{place, weight_of, weights, Rise, is_before, is_from, from_place, behind}
+use Rattle.mc_queue.specs.Places.{place, weight_of, weights, Rise, is_before, is_from, before, from_place, behind}
 
 pub rank_is : (p : Pos) → rank p ≡ p.block * 65536 + p.lane
 unfolding rank
@@ -102,3 +102,106 @@ pub shrunk : (track from to cut : ℕ) (old new : List Packet) → new ≡ behin
 shrunk track from to cut old new e r l =
     let f : new ≡ from_place cut old = e ∙ behind_is track from to cut old r in
     (f, subst (λ ps. Rise track cut to ps) (sym f) (rise_from track from to cut old l r))
+
+-- ---- those before a place, and those from it on
+
+pub few_before : (cut : ℕ) (ps : List Packet) → length (before cut ps) ≤ length ps
+few_before cut ps = let both = length-filter_both (is_before cut) (λ p. not (is_before cut p)) (λ _. refl) ps in omega arith
+
+pub none_before : (track from to cut : ℕ) (ps : List Packet) → cut ≤ from → Rise track from to ps → before cut ps ≡ []
+none_before track from to cut [] l r = refl
+none_before track from to cut (p ∷ ps) l r =
+    let m = r.1 in
+    let n = le-ltb (place p) cut (omega arith) in
+    rw n (none_before track (place p + 1) to cut ps (omega arith) r.2)
+
+-- the first ones, as many as stand before the place, are those before it
+pub take_before : (track from to cut : ℕ) (ps : List Packet) → Rise track from to ps → take (length (before cut ps)) ps ≡ before cut ps
+take_before track from to cut [] r = refl
+take_before track from to cut (p ∷ ps) r = elim (cases_Bool (is_before cut p)) [
+  | inl y ↦ rw y (ap (λ qs. p ∷ qs) (take_before track (place p + 1) to cut ps r.2))
+  | inr n ↦
+      let l = ltb-false (place p) cut n in
+      let z = none_before track (place p + 1) to cut ps (omega arith) r.2 in
+      rw (n, z) refl
+]
+
+-- and the others are those from it on
+pub drop_before_is : (track from to cut : ℕ) (ps : List Packet) → Rise track from to ps → drop (length (before cut ps)) ps ≡ from_place cut ps
+drop_before_is track from to cut [] r = refl
+drop_before_is track from to cut (p ∷ ps) r = elim (cases_Bool (is_before cut p)) [
+  | inl y ↦
+      let l = ltb-true (place p) cut y in
+      let n = lt-leb cut (place p) l in
+      rw (y, n) (drop_before_is track (place p + 1) to cut ps r.2)
+  | inr n ↦
+      let l = ltb-false (place p) cut n in
+      let z = none_before track (place p + 1) to cut ps (omega arith) r.2 in
+      let a : from_place cut (p ∷ ps) ≡ p ∷ ps = all_from track (place p) to cut (p ∷ ps) l (r.0, omega arith, r.2) in
+      rw (n, z) (sym a)
+]
+
+-- of two places the earlier has no more packets before it
+pub fewer_before : (cut cut' : ℕ) (ps : List Packet) → cut ≤ cut' → length (before cut ps) ≤ length (before cut' ps)
+fewer_before cut cut' [] l = omega arith
+fewer_before cut cut' (p ∷ ps) l =
+    let more = fewer_before cut cut' ps l in
+    elim (cases_Bool (is_before cut p)) [
+      | inl y ↦
+          let a = ltb-true (place p) cut y in
+          let b = lt-ltb (place p) cut' (omega arith) in
+          rw (y, b) (omega arith)
+      | inr n ↦ elim (cases_Bool (is_before cut' p)) [ inl y ↦ rw (n, y) (omega arith) | inr m ↦ rw (n, m) more ]
+    ]
+
+-- those before a place lie before it
+pub rise_before : (track from to cut : ℕ) (ps : List Packet) → from ≤ cut → Rise track from to ps → Rise track from cut (before cut ps)
+rise_before track from to cut [] l r = l
+rise_before track from to cut (p ∷ ps) l r = elim (cases_Bool (is_before cut p)) [
+  | inl y ↦
+      let m = ltb-true (place p) cut y in
+      rw y (r.0, r.1, rise_before track (place p + 1) to cut ps (omega arith) r.2)
+  | inr n ↦
+      let m = ltb-false (place p) cut n in
+      let z = none_before track (place p + 1) to cut ps (omega arith) r.2 in
+      rw (n, z) l
+]
+
+pub both_counts : (cut : ℕ) (ps : List Packet) → length (before cut ps) + length (from_place cut ps) ≡ length ps
+both_counts cut [] = refl
+both_counts cut (p ∷ ps) =
+    let more = both_counts cut ps in
+    elim (cases_Bool (is_before cut p)) [
+      | inl y ↦
+          let n = lt-leb cut (place p) (ltb-true (place p) cut y) in
+          rw (y, n) (omega arith)
+      | inr n ↦
+          let y = le-leb cut (place p) (ltb-false (place p) cut n) in
+          rw (n, y) (omega arith)
+    ]
+
+pub before_two : (cut : ℕ) (ps qs : List Packet) → before cut (ps ++ qs) ≡ before cut ps ++ before cut qs
+before_two cut [] qs = refl
+before_two cut (p ∷ ps) qs = elim (cases_Bool (is_before cut p)) [
+  | inl y ↦ rw y (ap (λ rs. p ∷ rs) (before_two cut ps qs))
+  | inr n ↦ rw n (before_two cut ps qs)
+]
+
+pub less_weight_before : (cut : ℕ) (ps : List Packet) → weights (before cut ps) ≤ weights ps
+less_weight_before cut ps = less_weight (is_before cut) ps
+
+-- none is counted twice
+pub less_weight_outside : (from to : ℕ) (ps : List Packet) → from ≤ to → weights (before from ps) + weights (from_place to ps) ≤ weights ps
+less_weight_outside from to [] l = omega arith
+less_weight_outside from to (p ∷ ps) l =
+    let more = less_weight_outside from to ps l in
+    let all = sum_by-cons weight_of p ps in
+    let front = sum_by-cons weight_of p (before from ps) in
+    let rear = sum_by-cons weight_of p (from_place to ps) in
+    elim (cases_Bool (is_before from p)) [
+      | inl y ↦
+          let m = ltb-true (place p) from y in
+          let n = lt-leb to (place p) (omega arith) in
+          rw (y, n) (omega arith)
+      | inr n ↦ elim (cases_Bool (is_from to p)) [ inl y ↦ rw (n, y) (omega arith) | inr m ↦ rw (n, m) (omega arith) ]
+    ]

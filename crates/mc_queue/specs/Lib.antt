@@ -1,3 +1,5 @@
 pub mod Places
 pub mod Queue
+pub mod Differences
 pub mod Union
+pub mod Films

@@ -4,10 +4,15 @@
 //! it as its track, its interval, its list of packets and its spare room (`specs/Queue`).
 #![tactic(auto)]
 
+mod differences;
 mod lookups;
+mod merging;
 mod parts;
 mod place;
 mod queue;
+#[cfg(test)]
+mod tests;
 
+pub use differences::Difference;
 pub use mc_packet::NoMemory;
-pub use queue::Queue;
+pub use queue::{Queue, UnionError};

@@ -1,7 +1,7 @@
-ghost use Rattle.std.specs.Prelude.{◌≡◌, ◌+◌, ◌-◌, ◌<◌, ◌≤◌, ◌^◌, ◌++◌, length, OnErr, OnOk};
+ghost use Rattle.std.specs.Prelude.{◌≡◌, ◌+◌, ◌-◌, ◌<◌, ◌≤◌, ◌^◌, ◌++◌, [], drop, length, take, OnErr, OnOk};
 ghost use Rattle.std.specs.VecDeque.{deque_capacity, deque_len};
 ghost use Rattle.mc_journal.specs.Films.{rank};
-ghost use Rattle.mc_queue.specs.Places.{DropsFirst, behind, from_place, weights};
+ghost use Rattle.mc_queue.specs.Places.{before, DropsFirst, behind, from_place, weights};
 
 use crate::place::{is_before, weight_of};
 use mc_packet::{NoMemory, Packet, Packets, Pos};
@@ -118,4 +118,23 @@ pub(crate) fn make_room(queue: &mut VecDeque<Packet>, more: usize) -> Result<(),
         return Ok(());
     }
     queue.reserve_exact(if more < len { len } else { more })
+}
+
+#[tactic(auto, using(crate::proofs::Moving::moved))]
+/// Moves packets from the rear of one list to the front of another, in their order and into the
+/// room that there is, until so many are left.
+pub(crate) fn move_rear(from: &mut VecDeque<Packet>, keep: usize, into: &mut VecDeque<Packet>)
+    requires some { keep ≤ deque_len from.old }
+    requires room { deque_len from.old + deque_len into.old ≤ deque_capacity into.old + keep }
+    ensures left { from.new.items ≡ take keep from.old.items }
+    ensures moved { into.new.items ≡ drop keep from.old.items ++ into.old.items }
+    ensures len { deque_len into.new + keep ≡ deque_len from.old + deque_len into.old }
+    ensures left_len { deque_len from.new ≡ keep }
+    ensures capacity { deque_capacity into.new ≡ deque_capacity into.old }
+{
+    while keep < from.len() {
+        if let Some(packet) = from.pop_back() {
+            into.push_front_reserved(packet);
+        }
+    }
 }

@@ -2,15 +2,35 @@ ghost use Rattle.std.specs.Prelude.{◌≡◌, ℕ, ◌+◌, ◌-◌, ◌<◌, �
 ghost use Rattle.std.specs.List.{find, list_any};
 ghost use Rattle.std.specs.Option.{option_copied};
 ghost use Rattle.mc_journal.specs.Films.{rank};
-ghost use Rattle.mc_queue.specs.Places.{Rise, is_from, from_place, weights};
+ghost use Rattle.mc_queue.specs.declared.queue.UnionError.TheVariants.{Mismatch};
+ghost use Rattle.mc_queue.specs.Films.{UnitesFilm};
+ghost use Rattle.mc_queue.specs.Union.{Compared, Meet, UnionGives, Unites, added};
+ghost use Rattle.mc_queue.specs.Places.{before, Rise, is_from, from_place, weights};
 ghost use Rattle.mc_queue.specs.Queue.{Appends, DropsTo, IsNew, IsQueue, with_spare, first_that, last_that, is_sync, is_sync_before, is_sync_from, is_sync_upto};
 
+use crate::differences::{Difference, compare};
 use crate::lookups;
+use crate::merging::{count_outside, merge, weight_outside};
 use crate::parts::{add_behind, drop_before, make_room, weight_behind, weight_of_all};
+use crate::place::{earlier, later};
 use mc_packet::{NoMemory, Packet, Packets, Pos, TrackNo};
 use std::alloc::Global;
 use std::collections::VecDeque;
 use std::marker::Model;
+
+/// Why two queues were not united.
+#[derive(Clone, Copy, Debug, PartialEq, Eq)]
+pub enum UnionError {
+    /// There was no memory for the other's packets.
+    NoMemory,
+    /// The first place that both intervals have at which the packets differ, with the time that
+    /// each has there, in nanoseconds.
+    Mismatch {
+        pos: Pos,
+        ours: Option<i64>,
+        other: Option<i64>,
+    },
+}
 
 /// All packets of one track from one place of the film up to, but without, another, in file order.
 /// `append`, `reserve` and `union` alone take memory.
@@ -189,5 +209,89 @@ impl Queue {
         ensures { result ≡ list_any (is_sync_before t) self.now.packets }
     {
         lookups::has_sync_before(&self.packets, t)
+    }
+
+    /// Makes this queue both together, where their intervals meet: each packet stands in it once,
+    /// and the other is left empty. It is refused with `Mismatch` exactly where the packets differ
+    /// at a place that both intervals have, and with `NoMemory` only where there was less room than
+    /// packets to add; both are then as they were. Two queues that hold exactly a film's packets of
+    /// their track in their intervals never mismatch, and together hold exactly the film's packets
+    /// of the joined interval.
+    pub fn union(&mut self, other: &mut Queue) -> Result<(), UnionError>
+        requires meet { Meet self.old other.old }
+        requires fits { weights self.old.packets + weights other.old.packets < 2 ^ 64 }
+        ensures value { UnionGives self.old other.old result self.new other.new }
+        ensures film { UnitesFilm self.old other.old result self.new }
+        ensures queue { IsQueue self.new }
+    {
+        // The interval of a queue is in order.
+        let _ = &self.from;
+        self.unite(other)
+    }
+
+    fn unite(&mut self, other: &mut Queue) -> Result<(), UnionError>
+        requires meet { Meet self.old other.old }
+        requires fits { weights self.old.packets + weights other.old.packets < 2 ^ 64 }
+        ensures value { UnionGives self.old other.old result self.new other.new }
+        ensures queue { IsQueue self.new }
+    {
+        if let Some(difference) = self.difference(other) {
+            return Err(mismatch(difference));
+        }
+        let more = self.added(other);
+        if make_room(&mut self.packets, more).is_err() {
+            return Err(UnionError::NoMemory);
+        }
+        self.absorb(other);
+        Ok(())
+    }
+
+    /// The first place that both intervals have at which the packets differ, and the time that each
+    /// has there: what `union` would refuse.
+    pub fn difference(&self, other: &Queue) -> Option<Difference>
+        requires meet { Meet self.now other.now }
+        ensures { Compared self.now other.now result }
+    {
+        compare(
+            &self.packets,
+            &other.packets,
+            later(self.from, other.from),
+            earlier(self.to, other.to),
+        )
+    }
+
+    /// How many packets of the other stand outside this interval: so many `union` would take.
+    pub fn added(&self, other: &Queue) -> usize
+        requires meet { Meet self.now other.now }
+        ensures { result ≡ added self.now other.now }
+    {
+        count_outside(&other.packets, self.from, self.to)
+    }
+
+    /// Takes the other's packets that stand outside this interval, into the room that there is. It is
+    /// `union` where it is known not to be refused.
+    pub fn absorb(&mut self, other: &mut Queue)
+        requires meet { Meet self.old other.old }
+        requires fits { weights self.old.packets + weights other.old.packets < 2 ^ 64 }
+        requires room { added self.old other.old ≤ self.old.spare }
+        ensures value { Unites self.old other.old self.new other.new }
+        ensures queue { IsQueue self.new }
+    {
+        self.weight += weight_outside(&other.packets, self.from, self.to);
+        merge(&mut self.packets, &mut other.packets, self.from, self.to);
+        self.from = earlier(self.from, other.from);
+        self.to = later(self.to, other.to);
+        other.to = other.from;
+        other.weight = 0;
+    }
+}
+
+fn mismatch(difference: Difference) -> UnionError
+    ensures { result ≡ Mismatch difference.pos difference.ours difference.other }
+{
+    UnionError::Mismatch {
+        pos: difference.pos,
+        ours: difference.ours,
+        other: difference.other,
     }
 }

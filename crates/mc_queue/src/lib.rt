@@ -13,6 +13,5 @@ mod queue;
 #[cfg(test)]
 mod tests;
 
-pub use differences::Difference;
 pub use mc_packet::NoMemory;
 pub use queue::{Queue, UnionError};

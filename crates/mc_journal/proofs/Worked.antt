@@ -1,13 +1,13 @@
 -- The worked journals are used: each record's conditions are computed.
-use Rattle.std.proofs.Common.{◌≡◌, ap, ℕ, true, false, ◌<◌, Some, None, arith, refl, lit≤, lit<}
+use Rattle.std.proofs.Common.{◌≡◌, ap, ℕ, true, false, ◌<◌, ◌∷◌, Some, None, arith, refl, lit≤, lit<}
 use Rattle.std.specs.List.{AllByRecursion}
 use Rattle.mc_journal.specs.declared.record.Sought.TheVariants.{Cached, Sent}
 use Rattle.mc_journal.specs.Films.{rank, first_lane, block_of}
 use Rattle.mc_journal.specs.Views.{is_idle}
 use Rattle.mc_journal.specs.Used.{IsUsed, AreNext, onto}
 use Rattle.mc_journal.proofs.Appending.{used-onto}
-use Rattle.mc_journal.specs.WorkedFilms.{one, two, one_packets, two_packets, a93, a100, v200}
-use Rattle.mc_journal.specs.Worked.{before_the_start, drain_0, drain_1, drain_2, drain_end, drained, drained_forward, drained_twice, dropped, dropping, ends_early, filling, first_seven, forward_at, forward_exact, forward_past, forward_sent, forward_to_last, from_keyframe, joined, joins, meets_second, none_behind, one_ahead, other_audio, overfull, past_the_end, reads_0, reads_1, second_range, sent, sent_seek, skips, start, switched, switches, too_early, too_late, two_ranges, unjoined, usual}
+use Rattle.mc_journal.specs.WorkedFilms.{one, two, one_packets, two_packets, opening, c0, a93, a100, v200}
+use Rattle.mc_journal.specs.Worked.{added_twice, before_the_start, begins_again, drain_0, drain_1, drain_2, drain_end, drained, drained_forward, drained_twice, dropped, dropping, ends_early, failed_read, fails, filling, first_seven, forward_at, forward_exact, forward_past, forward_sent, forward_to_last, from_keyframe, joined, joins, meets_second, none_behind, one_ahead, other_audio, overfull, past_the_end, read, reads_0, reads_1, refusals, refused, repeated, second_range, sent, sent_again, sent_seek, skips, start, switched, switches, third_track, too_early, too_late, two_ranges, unjoined, usual, waited}
 
 one_before : AllByRecursion (λ p. p.pos.block < 228) one_packets
 one_before = (lit< tt, (lit< tt, (lit< tt, (lit< tt, (lit< tt, (lit< tt, (lit< tt, (lit< tt, (lit< tt, (lit< tt, (lit< tt, (lit< tt, (lit< tt, (lit< tt, (lit< tt, (lit< tt, (lit< tt, (lit< tt, tt))))))))))))))))))
@@ -168,6 +168,74 @@ switched-other_audio = ((record { sound = refl; here = (refl, refl); onward = li
 pub switched-used : IsUsed two usual switched
 switched-used = used-onto two usual other_audio (onto switches (onto first_seven start)) (used-onto two usual switches (onto first_seven start) (used-onto two usual first_seven start started_switched switched-first_seven) switched-switches) switched-other_audio
 
+-- ---- a read that fails
+
+started_failed_read : IsUsed one usual start
+started_failed_read = (((refl, refl), refl, tt), tt)
+
+failed_read-fails : AreNext one usual (start) fails
+unfolding rank first_lane
+failed_read-fails = ((record { sound = refl; here = (refl, refl); onward = lit≤ tt; ends = tt }, refl, (refl, refl)), ((refl, refl, tt), (((refl, refl), refl, tt), (((refl, refl, refl), refl, ((refl, refl), refl)), tt))))
+
+failed_read-begins_again : AreNext one usual (onto fails start) begins_again
+unfolding rank first_lane
+failed_read-begins_again = (((refl, (refl, refl)), refl, tt), ((record { sound = refl; some = refl; tracks = (refl, refl, refl); exact = λ regular. (refl, refl, tt); least = (lit≤ tt, lit≤ tt, tt) }, refl, λ regular. refl), ((refl, refl, tt), (((refl, refl), refl, tt), ((record { sound = refl; here = (refl, refl); onward = lit≤ tt; ends = tt }, refl, (refl, refl)), (((refl, refl), refl, tt), ((record { sound = refl; here = (refl, refl); onward = lit≤ tt; ends = tt }, refl, (refl, refl)), (((refl, refl), refl, tt), ((record { sound = refl; here = (refl, refl); onward = lit≤ tt; ends = tt }, refl, (refl, refl)), (((refl, refl), refl, tt), ((record { sound = refl; here = (refl, refl); onward = lit≤ tt; ends = tt }, refl, (refl, refl)), (((refl, refl), refl, tt), ((record { sound = refl; here = (refl, refl); onward = lit≤ tt; ends = tt }, refl, (refl, refl)), (((refl, refl), refl, tt), ((record { sound = refl; here = (refl, refl); onward = lit≤ tt; ends = tt }, refl, (refl, refl)), (((refl, refl), refl, tt), tt))))))))))))))))
+
+failed_read-drain_1 : AreNext one usual (onto begins_again (onto fails start)) drain_1
+unfolding rank first_lane
+failed_read-drain_1 = ((record { sound = refl; here = (refl, refl); onward = lit≤ tt; ends = tt }, refl, (refl, refl)), (((refl, refl), refl, tt), ((record { sound = refl; here = (refl, refl); onward = lit≤ tt; ends = tt }, refl, (refl, refl)), (((refl, refl), refl, tt), ((record { sound = refl; here = (refl, refl); onward = lit≤ tt; ends = tt }, refl, (refl, refl)), (((refl, refl), refl, tt), ((record { sound = refl; here = (refl, refl); onward = lit≤ tt; ends = tt }, refl, (refl, refl)), (((refl, refl), refl, tt), ((record { sound = refl; here = (refl, refl); onward = lit≤ tt; ends = tt }, refl, (refl, refl)), (((refl, refl), refl, tt), ((record { sound = refl; here = (refl, refl); onward = lit≤ tt; ends = tt }, refl, (refl, refl)), (((refl, refl), refl, tt), ((record { sound = refl; here = (refl, refl); onward = lit≤ tt; ends = tt }, refl, (refl, refl)), (((refl, refl), refl, tt), tt))))))))))))))
+
+failed_read-drain_2 : AreNext one usual (onto drain_1 (onto begins_again (onto fails start))) drain_2
+unfolding rank first_lane
+failed_read-drain_2 = ((record { sound = refl; here = (refl, refl); onward = lit≤ tt; ends = tt }, refl, (refl, refl)), (((refl, refl), refl, tt), ((record { sound = refl; here = (refl, refl); onward = lit≤ tt; ends = tt }, refl, (refl, refl)), (((refl, refl), refl, tt), ((record { sound = refl; here = (refl, refl); onward = lit≤ tt; ends = tt }, refl, (refl, refl)), (((refl, refl), refl, tt), ((record { sound = refl; here = (refl, refl); onward = lit≤ tt; ends = tt }, refl, (refl, refl)), (((refl, refl), refl, tt), tt))))))))
+
+failed_read-drain_end : AreNext one usual (onto drain_2 (onto drain_1 (onto begins_again (onto fails start)))) drain_end
+unfolding rank first_lane
+failed_read-drain_end = ((record { sound = refl; here = (refl, refl); onward = lit≤ tt; ends = (refl, one_before) }, refl, (refl, refl)), (((refl, (refl, refl), refl), refl, tt), (((refl, (refl, refl), refl), refl, tt), tt)))
+
+pub failed_read-used : IsUsed one usual failed_read
+failed_read-used = used-onto one usual drain_end (onto drain_2 (onto drain_1 (onto begins_again (onto fails start)))) (used-onto one usual drain_2 (onto drain_1 (onto begins_again (onto fails start))) (used-onto one usual drain_1 (onto begins_again (onto fails start)) (used-onto one usual begins_again (onto fails start) (used-onto one usual fails start started_failed_read failed_read-fails) failed_read-begins_again) failed_read-drain_1) failed_read-drain_2) failed_read-drain_end
+
+-- ---- refusals
+
+started_refused : IsUsed one usual start
+started_refused = (((refl, refl), refl, tt), tt)
+
+refused-refusals : AreNext one usual (start) refusals
+unfolding rank first_lane
+refused-refusals = ((tt, refl, tt), (((refl, refl), refl, tt), ((tt, refl, refl), tt)))
+
+pub refused-used : IsUsed one usual refused
+refused-used = used-onto one usual refusals start started_refused refused-refusals
+
+-- ---- a track that waits is added again
+
+started_waited : IsUsed two usual start
+started_waited = (((refl, refl), refl, tt), tt)
+
+waited-added_twice : AreNext two usual (start) added_twice
+unfolding rank first_lane
+waited-added_twice = (((refl, refl), refl, tt), (((refl, refl), refl, tt), ((record { sound = refl; some = refl; tracks = (refl, refl, refl); exact = λ regular. (tt, refl, tt); least = (tt, lit≤ tt, tt) }, refl, λ regular. refl), tt)))
+
+waited-third_track : AreNext two usual (onto added_twice start) third_track
+unfolding rank first_lane
+waited-third_track = ((record { sound = refl; here = (refl, refl); onward = lit≤ tt; ends = tt }, refl, (refl, refl)), ((record { sound = refl; here = (refl, refl); onward = lit≤ tt; ends = tt }, refl, (refl, refl)), ((record { sound = refl; here = (refl, refl); onward = lit≤ tt; ends = tt }, refl, (refl, refl)), (((refl, refl), refl, tt), ((record { sound = refl; here = (refl, refl); onward = lit≤ tt; ends = tt }, refl, (refl, refl)), ((record { sound = refl; here = (refl, refl); onward = lit≤ tt; ends = tt }, refl, (refl, refl)), ((record { sound = refl; here = (refl, refl); onward = lit≤ tt; ends = tt }, refl, (refl, refl)), (((refl, refl), refl, tt), ((record { sound = refl; here = (refl, refl); onward = lit≤ tt; ends = tt }, refl, (refl, refl)), ((record { sound = refl; here = (refl, refl); onward = lit≤ tt; ends = tt }, refl, (refl, refl)), ((record { sound = refl; here = (refl, refl); onward = lit≤ tt; ends = tt }, refl, (refl, refl)), ((record { sound = refl; here = (refl, refl); onward = lit≤ tt; ends = tt }, refl, (refl, refl)), (((refl, refl), refl, tt), ((record { sound = refl; here = (refl, refl); onward = lit≤ tt; ends = (refl, two_before) }, refl, (refl, refl)), (((refl, (refl, refl), refl), refl, tt), tt)))))))))))))))
+
+pub waited-used : IsUsed two usual waited
+waited-used = used-onto two usual third_track (onto added_twice start) (used-onto two usual added_twice start started_waited waited-added_twice) waited-third_track
+
+-- ---- a seek sent again
+
+started_repeated : IsUsed one usual start
+started_repeated = (((refl, refl), refl, tt), tt)
+
+repeated-sent_again : AreNext one usual (start) sent_again
+unfolding rank first_lane
+repeated-sent_again = (((refl, (refl, refl)), refl, tt), (((refl, refl), refl, tt), (((refl, (refl, refl, refl, refl)), refl, tt), ((record { sound = refl; some = refl; tracks = (refl, refl, refl); exact = λ regular. (tt, refl, tt); least = (tt, lit≤ tt, tt) }, refl, λ regular. refl), ((record { sound = refl; here = (refl, refl); onward = lit≤ tt; ends = tt }, refl, (refl, refl)), (((refl, refl), refl, tt), tt))))))
+
+pub repeated-used : IsUsed one usual repeated
+repeated-used = used-onto one usual sent_again start started_repeated repeated-sent_again
+
 -- ---- drain, seek 0.13 forward, drain
 
 drained_forward-forward_past : AreNext one usual (drained) forward_past
@@ -241,6 +309,10 @@ unjoined-unused used = not_yet used.0.1
 pub idle_then : is_idle one_packets usual two_ranges ≡ true
 unfolding rank first_lane
 idle_then = refl
+
+pub idle_full : is_idle one_packets one_ahead (read opening (c0 93) 1 ∷ start) ≡ true
+unfolding rank first_lane
+idle_full = refl
 
 pub busy_before : is_idle one_packets usual joined ≡ false
 unfolding rank first_lane

@@ -3,6 +3,7 @@
 use Rattle.std.specs.Prelude.{ℕ, ℤ, false, true, List, [], ◌∷◌, Option, Some, None, pos, negsuc}
 use Rattle.mc_packet.specs.declared.choice.Choice.{Choice}
 use Rattle.mc_packet.specs.declared.choice.Dir.TheVariants.{Back, Forward}
+use Rattle.mc_packet.specs.declared.choice.Why.TheVariants.{NoTrack, UnknownTrack}
 use Rattle.mc_packet.specs.declared.packet.Pos.{Pos}
 use Rattle.mc_packet.specs.declared.walk.Ending.TheVariants.{Clean}
 use Rattle.mc_packet.specs.declared.walk.Mark.{Mark}
@@ -13,9 +14,9 @@ use Rattle.mc_journal.specs.declared.record.Cause.{Cause}
 use Rattle.mc_journal.specs.declared.record.Cause.TheVariants.{Limit, TrackChanged}
 use Rattle.mc_journal.specs.declared.record.Sought.TheVariants.{Cached, Sent}
 use Rattle.mc_journal.specs.declared.record.DemuxRecord.{DemuxRecord}
-use Rattle.mc_journal.specs.declared.record.DemuxRecord.TheVariants.{Opened, Sought, Switched, Found, Fed, Dropped, Joined, Gave, Ended, Overfull, Shown}
+use Rattle.mc_journal.specs.declared.record.DemuxRecord.TheVariants.{Opened, Sought, Switched, Found, Fed, Dropped, Joined, Gave, Ended, Overfull, Shown, Failed, Faulted, Refused}
 use Rattle.mc_journal.specs.Told.{Told}
-use Rattle.mc_journal.specs.WorkedFilms.{opening, c0, c1, c2, d0, a100, a113, a114, a127, a128, a150, a157, a171, a185, a207, a214, a93, b141, b169, v106, v107, v121, v134, v143, v155, v164, v178, v200, v221, v86}
+use Rattle.mc_journal.specs.WorkedFilms.{opening, c0, c1, c2, d0, a100, a113, a114, a127, a128, a150, a157, a171, a185, a207, a214, a93, b120, b141, b169, v106, v107, v121, v134, v143, v155, v164, v178, v200, v221, v86}
 use Rattle.mc_journal.specs.Used.{onto}
 
 -- ---- words
@@ -350,6 +351,91 @@ other_audio =
 
 abbrev pub switched : List DemuxRecord
 switched = onto other_audio (onto switches (onto first_seven start))
+
+-- ---- a read that fails: demux 2, read video, read audio, seek 0, drain
+
+abbrev pub fails : List DemuxRecord
+fails =
+    read opening (c0 93) 1
+    ∷ Failed 5 0 1
+    ∷ video v86
+    ∷ Faulted 3 2 0 1 ∷ []
+
+abbrev pub begins_again : List DemuxRecord
+begins_again =
+    seek (pos 0)
+    ∷ found (Some 86) (Some 93) (c0 86)
+    ∷ Joined 5
+    ∷ video v86
+    ∷ read (c0 93) (c0 100) 2
+    ∷ audio a93
+    ∷ read (c0 100) (c0 107) 2
+    ∷ audio a100
+    ∷ read (c0 107) (c0 114) 1
+    ∷ video v107
+    ∷ read (c0 114) (c0 121) 2
+    ∷ audio a114
+    ∷ read (c0 121) (c0 128) 1
+    ∷ video v121
+    ∷ read (c0 128) (c0 135) 2
+    ∷ audio a128 ∷ []
+
+abbrev pub failed_read : List DemuxRecord
+failed_read = onto drain_end (onto drain_2 (onto drain_1 (onto begins_again (onto fails start))))
+
+-- ---- switch 9, switch, seek 0: nothing is selected then
+
+abbrev pub refusals : List DemuxRecord
+refusals =
+    Refused 0 (UnknownTrack 9)
+    ∷ Switched 0 (tracks None None) (tracks None None) (pos 0)
+    ∷ Refused 0 NoTrack ∷ []
+
+abbrev pub refused : List DemuxRecord
+refused = onto refusals start
+
+-- ---- the second film: switch 1 3 at 0.15, switch 3 at 0, drain: track 3 still waits, and is added again
+
+abbrev pub added_twice : List DemuxRecord
+added_twice =
+    Switched 0 (tracks (Some 1) (Some 3)) (tracks None (Some 3)) (pos 150000000)
+    ∷ Switched 0 (tracks None (Some 3)) (tracks None (Some 3)) (pos 0)
+    ∷ found None (Some 120) (d0 120) ∷ []
+
+abbrev pub third_track : List DemuxRecord
+third_track =
+    pass_by opening (d0 113)
+    ∷ pass_by (d0 113) (d0 120)
+    ∷ read (d0 120) (d0 127) 3
+    ∷ audio b120
+    ∷ pass_by (d0 127) (d0 134)
+    ∷ pass_by (d0 134) (d0 141)
+    ∷ read (d0 141) (d0 148) 3
+    ∷ audio b141
+    ∷ pass_by (d0 148) (d0 155)
+    ∷ pass_by (d0 155) (d0 162)
+    ∷ pass_by (d0 162) (d0 169)
+    ∷ read (d0 169) (d0 176) 3
+    ∷ audio b169
+    ∷ finish (d0 176)
+    ∷ Ended 3 3 Clean ∷ []
+
+abbrev pub waited : List DemuxRecord
+waited = onto third_track (onto added_twice start)
+
+-- ---- seek 0.2, switch 2 at 0: the seek is pending, so it is sent again for audio alone
+
+abbrev pub sent_again : List DemuxRecord
+sent_again =
+    seek (pos 200000000)
+    ∷ Switched 0 (tracks None (Some 2)) (tracks None None) (pos 0)
+    ∷ Sought 0 (tracks None (Some 2)) (pos 200000000) Back Sent
+    ∷ found None (Some 171) (c1 171)
+    ∷ read (c1 171) (c1 178) 2
+    ∷ audio a171 ∷ []
+
+abbrev pub repeated : List DemuxRecord
+repeated = onto sent_again start
 
 -- ---- forward seeks
 

@@ -1,13 +1,13 @@
 //! Journals of two films, worked out by hand, on which the definitions are seen to say what the
 //! rules say.
-ghost use Rattle.std.specs.Prelude.{◌≡◌, true, false};
+ghost use Rattle.std.specs.Prelude.{◌≡◌, ◌∷◌, true, false};
 ghost use Rattle.mc_journal.specs.Views.{is_idle};
 ghost use Rattle.mc_journal.specs.Used.{IsUsed};
 ghost use Rattle.mc_packet.specs.declared.walk.Ending.TheVariants.{Clean};
 ghost use Rattle.mc_journal.specs.Films.{IsFilm, IsRegular};
 ghost use Rattle.mc_journal.specs.Legal.{IsLegal};
-ghost use Rattle.mc_journal.specs.WorkedFilms.{one, two, one_packets, one_known};
-ghost use Rattle.mc_journal.specs.Worked.{usual, none_behind, one_ahead, drained, sent, joined, drained_twice, before_the_start, two_ranges, dropped, overfull, switched, drained_forward, forward_to_last, forward_sent, forward_at, too_early, too_late, skips, ends_early, unjoined};
+ghost use Rattle.mc_journal.specs.WorkedFilms.{one, two, one_packets, one_known, opening, c0};
+ghost use Rattle.mc_journal.specs.Worked.{usual, none_behind, one_ahead, drained, sent, joined, drained_twice, before_the_start, two_ranges, dropped, overfull, switched, failed_read, refused, waited, repeated, start, read, drained_forward, forward_to_last, forward_sent, forward_at, too_early, too_late, skips, ends_early, unjoined};
 
 /// The first worked film is one and is regular, so that its whole reading is legal.
 pub fn worked_films()
@@ -17,7 +17,8 @@ pub fn worked_films()
 {}
 
 /// Each worked journal is used: reading to the end, seeks that are sent and seeks that are served,
-/// joins, drops and full caches, and a switch.
+/// joins, drops and full caches, a read that fails, refusals, and switches: while a track is read,
+/// while one waits, and while a seek is pending.
 pub fn worked_journals()
     ensures drained { IsUsed one usual drained }
     ensures sent { IsUsed one usual sent }
@@ -28,7 +29,12 @@ pub fn worked_journals()
     ensures dropped { IsUsed one none_behind dropped }
     ensures overfull { IsUsed one one_ahead overfull }
     ensures switched { IsUsed two usual switched }
+    ensures failed_read { IsUsed one usual failed_read }
+    ensures refused { IsUsed one usual refused }
+    ensures waited { IsUsed two usual waited }
+    ensures repeated { IsUsed one usual repeated }
     ensures idle { is_idle one_packets usual two_ranges ≡ true }
+    ensures full { is_idle one_packets one_ahead (read opening (c0 93) 1 ∷ start) ≡ true }
     ensures busy { is_idle one_packets usual joined ≡ false }
 {}
 

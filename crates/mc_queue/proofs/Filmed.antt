@@ -8,12 +8,13 @@ use Rattle.mc_packet.specs.declared.packet.Pos.{Pos}
 use Rattle.mc_journal.specs.Films.{rank}
 use Rattle.mc_queue.specs.declared.queue.UnionError.{UnionError}
 use Rattle.mc_queue.specs.declared.queue.UnionError.TheVariants.{NoMemory, Mismatch}
-use Rattle.mc_queue.specs.Places.{place, is_before, is_from, before, from_place, within}
-use Rattle.mc_queue.specs.Queue.{QueueState}
+use Rattle.mc_queue.specs.Places.{Rise, place, is_before, is_from, before, from_place, within}
+use Rattle.mc_queue.specs.Queue.{QueueState, DropsTo}
 use Rattle.mc_queue.specs.Differences.{time_at}
 use Rattle.mc_queue.specs.Union.{Meet, earlier, later, shared_from, shared_to, united, UnionGives}
+use Rattle.mc_queue.proofs.Rising.{rise_bounds}
 use Rattle.mc_queue.proofs.Uniting.{earlier_least, later_greatest}
-use Rattle.mc_queue.specs.Films.{PlacesRise, of_track, Holds, UnitesFilm}
+use Rattle.mc_queue.specs.Films.{PlacesRise, of_track, Holds, UnitesFilm, KeepsFilm}
 
 -- ---- parts of a list
 
@@ -208,3 +209,24 @@ unites_film q o q' o' (Err NoMemory) m l g = λ film r h k. refl
 unites_film q o q' o' (Err (Mismatch at ours other)) m l g = λ film r h k.
     let d = g.2 in
     absurd (d.two (d.ours_is ∙ film_agrees q o film m.one_track h k (rank at) d.begins d.ends ∙ sym d.other_is))
+
+-- ---- one queue of a film
+
+pub appends_film : (q q' : QueueState) → q ≡ q' → (upto : Pos) (ps new : List Packet) → new ≡ q.packets ++ ps → Rise q.track (rank q.from) (rank q.to) q.packets → Rise q'.track (rank q'.to) (rank upto) ps
+    → (film : List Packet) → PlacesRise film → Holds film q' → ps ≡ within (rank q'.to) (rank upto) (of_track q'.track film) → new ≡ within (rank q.from) (rank upto) (of_track q.track film)
+appends_film q q' e upto ps new n a b film r h k =
+    let T = of_track q.track film in
+    let h' = subst (λ (s : QueueState). Holds film s) (sym e) h in
+    let k' : ps ≡ within (rank q.to) (rank upto) T = subst (λ (s : QueueState). ps ≡ within (rank s.to) (rank upto) (of_track s.track film)) (sym e) k in
+    let b' = subst (λ (s : QueueState). Rise s.track (rank s.to) (rank upto) ps) (sym e) b in
+    let l = rise_bounds q.track (rank q.from) (rank q.to) q.packets a in
+    let m = rise_bounds q.track (rank q.to) (rank upto) ps b' in
+    n ∙ ap (λ qs. qs ++ ps) h' ∙ ap (λ qs. within (rank q.from) (rank q.to) T ++ qs) k'
+    ∙ sym (two_parts (rank q.from) (rank q.to) (rank upto) T l m (still_rise (λ (p : Packet). p.track == q.track) film r))
+
+pub keeps_film : (cut : Pos) (q new : QueueState) → DropsTo cut q new → rank q.from ≤ rank cut → KeepsFilm q new
+keeps_film cut q new d l = λ film h.
+    let T = of_track q.track film in
+    let e : from_place (rank cut) q.packets ≡ within (rank cut) (rank q.to) T =
+    ap (λ qs. from_place (rank cut) qs) h ∙ from_within (rank q.from) (rank q.to) (rank cut) T l in
+    subst (λ (s : QueueState). Holds film s) (sym d.packets_left) e

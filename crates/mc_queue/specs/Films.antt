@@ -2,6 +2,7 @@
 use Rattle.std.specs.Prelude.{◌≡◌, ℕ, ◌==◌, ◌<◌, List, [], ◌∷◌, filter, Result, Ok, Err, ⊤}
 use Rattle.std.specs.List.{AllByRecursion}
 use Rattle.mc_packet.specs.declared.packet.Packet.{Packet}
+use Rattle.mc_packet.specs.declared.packet.Pos.{Pos}
 use Rattle.mc_journal.specs.Films.{rank}
 use Rattle.mc_queue.specs.declared.queue.UnionError.{UnionError}
 use Rattle.mc_queue.specs.declared.queue.UnionError.TheVariants.{NoMemory}
@@ -28,3 +29,11 @@ StillHolds film new (Err e) = e ≡ NoMemory
 -- two queues that hold a film's packets are united, unless memory is wanting, and hold its packets then
 abbrev pub UnitesFilm : QueueState → QueueState → Result Unit UnionError → QueueState → Type 0
 UnitesFilm q o result new = (film : List Packet) → PlacesRise film → Holds film q → Holds film o → StillHolds film new result
+
+-- and so does one behind whose packets those are put that the film has from its end up to a place
+abbrev pub AppendsFilm : QueueState → Pos → List Packet → QueueState → Type 0
+AppendsFilm q upto ps new = (film : List Packet) → PlacesRise film → Holds film q → ps ≡ within (rank q.to) (rank upto) (of_track q.track film) → Holds film new
+
+-- and one from which packets are dropped
+abbrev pub KeepsFilm : QueueState → QueueState → Type 0
+KeepsFilm q new = (film : List Packet) → Holds film q → Holds film new

@@ -3,7 +3,7 @@ ghost use Rattle.std.specs.List.{find, list_any};
 ghost use Rattle.std.specs.Option.{option_copied};
 ghost use Rattle.mc_journal.specs.Films.{rank};
 ghost use Rattle.mc_queue.specs.declared.queue.UnionError.TheVariants.{Mismatch};
-ghost use Rattle.mc_queue.specs.Films.{UnitesFilm};
+ghost use Rattle.mc_queue.specs.Films.{AppendsFilm, KeepsFilm, UnitesFilm};
 ghost use Rattle.mc_queue.specs.Union.{Compared, Meet, UnionGives, Unites, added};
 ghost use Rattle.mc_queue.specs.Places.{before, Rise, is_from, from_place, weights};
 ghost use Rattle.mc_queue.specs.Queue.{Appends, DropsTo, IsNew, IsQueue, with_spare, first_that, last_that, is_sync, is_sync_before, is_sync_from, is_sync_upto};
@@ -138,6 +138,7 @@ impl Queue {
         requires fits { weights self.old.packets + weights packets < 2 ^ 64 }
         ensures ok { OnOk result (Appends upto packets self.old self.new) }
         ensures err { OnErr result ((self.new ≡ self.old) × (self.old.spare < length packets)) }
+        ensures film { OnOk result (AppendsFilm self.old upto packets self.new) }
         ensures queue { IsQueue self.new }
     {
         let weight = weight_of_all(packets.as_slice());
@@ -153,6 +154,7 @@ impl Queue {
         requires after { rank self.old.from ≤ rank cut }
         requires before { rank cut ≤ rank self.old.to }
         ensures dropped { DropsTo cut self.old self.new }
+        ensures film { KeepsFilm self.old self.new }
         ensures weight { result + weights self.new.packets ≡ weights self.old.packets }
         ensures queue { IsQueue self.new }
     {

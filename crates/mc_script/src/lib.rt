@@ -5,6 +5,8 @@
 
 mod cache_text;
 mod exit;
+#[cfg(test)]
+mod tests;
 mod transcript;
 mod words;
 

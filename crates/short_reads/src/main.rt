@@ -34,7 +34,11 @@ fn perform(rt: &HostRuntime, most: usize, name: &str) -> io::Result<u8> {
     words.push(String::from_str(alloc, "run")?)?;
     words.push(String::from_str(alloc, name)?)?;
     let mut out = StdSink::new(io::writer(rt));
-    Ok(run(alloc, words.as_slice(), &mut shelf, &mut out).exit.status())
+    Ok(
+        run(alloc, words.as_slice(), &mut shelf, &mut out)
+            .exit
+            .status(),
+    )
 }
 
 fn main(rt: HostRuntime) -> io::Result<ExitCode> {

@@ -1,4 +1,4 @@
-use Rattle.mc_journal.proofs.Worked.{drained-used, sent-used, joined-used, drained_twice-used, before_the_start-used, two_ranges-used, dropped-used, overfull-used, switched-used, idle_then, busy_before}
+use Rattle.mc_journal.proofs.Worked.{drained-used, sent-used, joined-used, drained_twice-used, before_the_start-used, two_ranges-used, dropped-used, overfull-used, switched-used, failed_read-used, refused-used, waited-used, repeated-used, idle_then, idle_full, busy_before}
 use Rattle.mc_journal.proofs.journals.worked_journals.Goals as goal
 
 pub returns-clause-drained : goal.returns-clause-drained
@@ -28,8 +28,23 @@ returns-clause-overfull c = overfull-used
 pub returns-clause-switched : goal.returns-clause-switched
 returns-clause-switched c = switched-used
 
+pub returns-clause-failed_read : goal.returns-clause-failed_read
+returns-clause-failed_read c = failed_read-used
+
+pub returns-clause-refused : goal.returns-clause-refused
+returns-clause-refused c = refused-used
+
+pub returns-clause-waited : goal.returns-clause-waited
+returns-clause-waited c = waited-used
+
+pub returns-clause-repeated : goal.returns-clause-repeated
+returns-clause-repeated c = repeated-used
+
 pub returns-clause-idle : goal.returns-clause-idle
 returns-clause-idle c = idle_then
+
+pub returns-clause-full : goal.returns-clause-full
+returns-clause-full c = idle_full
 
 pub returns-clause-busy : goal.returns-clause-busy
 returns-clause-busy c = busy_before

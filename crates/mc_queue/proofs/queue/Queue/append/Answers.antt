@@ -3,6 +3,7 @@ use Rattle.mc_journal.specs.Films.{rank}
 use Rattle.mc_queue.specs.Places.{Rise, weights}
 use Rattle.mc_queue.specs.Queue.{QueueState}
 use Rattle.mc_queue.proofs.Rising.{grown}
+use Rattle.mc_queue.proofs.Filmed.{appends_film}
 use Rattle.mc_queue.proofs.queue.Queue.append.Goals as goal
 
 -- src/queue.rt:116:5
@@ -23,3 +24,6 @@ returns-clause-queue c =
     let f = subst (λ (q : QueueState). weights q.packets + weights c.args.packets < 2 ^ 64) (sym c.self.view_is) c.requires.fits in
     let g = grown _ _ _ _ _ _ _ c.in_ok-add_behind.ensures.ok c.self.invariant.2 r f in
     record { rise = g.2; fits = g.1 }
+
+pub returns-clause-film : goal.returns-clause-film
+returns-clause-film c = appends_film _ _ c.self.view_is c.args.upto c.args.packets _ c.in_ok-add_behind.ensures.ok c.self.invariant.2 c.requires.rise

@@ -3,6 +3,7 @@ use Rattle.std.specs.VecDeque.{deque_capacity, deque_len}
 use Rattle.mc_journal.specs.Films.{rank}
 use Rattle.mc_queue.specs.Queue.{QueueState}
 use Rattle.mc_queue.proofs.Rising.{shrunk}
+use Rattle.mc_queue.proofs.Filmed.{keeps_film}
 use Rattle.mc_queue.proofs.queue.Queue.drop_upto.Goals as goal
 
 -- src/queue.rt:132:5
@@ -36,3 +37,6 @@ returns-clause-queue c =
     let w = c.drop_before-dropped.ensures.weight in
     let j = c.self.invariant.1 in
     record { rise = s.1; fits = omega arith }
+
+pub returns-clause-film : goal.returns-clause-film
+returns-clause-film c = keeps_film _ _ _ (returns-clause-dropped c) c.requires.after

@@ -1,10 +1,9 @@
 -- A range that begins is one.
-use Rattle.std.proofs.Common.{◌≡◌, ℕ, ◌+◌, ◌*◌, ◌^◌, ◌<◌, ◌≤◌, Bool, true, Option, Some, None, arith, refl}
+use Rattle.std.proofs.Common.{◌≡◌, ℕ, true, Option, Some, None, arith, refl}
 use Rattle.mc_packet.specs.declared.choice.Choice.{Choice}
 use Rattle.mc_packet.specs.declared.choice.Starts.{Starts}
 use Rattle.mc_packet.specs.declared.walk.Mark.{Mark}
 use Rattle.mc_journal.specs.Choices.{is_distinct}
-use Rattle.mc_journal.specs.Films.{rank, first_lane}
 use Rattle.mc_queue.specs.Places.{weights}
 use Rattle.mc_queue.specs.Queue.{QueueState, IsQueue, IsNew}
 use Rattle.mc_range.specs.declared.queues.Queues.{Queues}

@@ -1,8 +1,8 @@
 -- What a range serves by its queues is what it serves by the definitions over a film's list, of which it holds its part.
-use Rattle.std.proofs.Common.{◌≡◌, ℕ, Bool, true, false, ◌&&◌, not, ◌==◌, Option, Some, None, List, [], ◌∷◌, ℤ, refl, ap, sym, ◌∙◌, inl, inr}
+use Rattle.std.proofs.Common.{◌≡◌, ℕ, Bool, true, false, ◌&&◌, ◌==◌, Option, Some, None, List, [], ◌∷◌, ℤ, refl, ap, sym, ◌∙◌}
 use Rattle.std.specs.Prelude.{map, nat_le, nat_lt, if◌then◌else◌, is_some, IfSome, IsSomeAnd}
 use Rattle.std.specs.List.{filter}
-use Rattle.std.proofs.lemmas.Bool.{cases_Bool, eq-eqb, not-true, and_parts}
+use Rattle.std.proofs.lemmas.Bool.{eq-eqb, not-true, and_parts}
 use Rattle.mc_packet.specs.declared.packet.Packet.{Packet}
 use Rattle.mc_packet.specs.declared.packet.Pos.{Pos}
 use Rattle.mc_packet.specs.declared.cache.Heads.{Heads}
@@ -11,9 +11,9 @@ use Rattle.mc_packet.specs.declared.choice.Dir.{Dir}
 use Rattle.mc_journal.specs.Told.{Told, told}
 use Rattle.mc_journal.specs.Choices.{passes, is_track, is_other, is_distinct}
 use Rattle.mc_journal.specs.Films.{at, rank, first_lane, block_of, time_or, track_of, syncs, track_sync, video_sync, audio_sync, audio_dir, least_of, sync_for, start_by, start_with}
-use Rattle.mc_journal.specs.Ranges.{Range, Span, within, in_span, held, held_syncs, on_span, served, serves, served_head}
+use Rattle.mc_journal.specs.Ranges.{Span, in_span, held_syncs, on_span, served, serves, served_head}
 use Rattle.mc_queue.specs.Queue.{is_sync}
-use Rattle.mc_range.specs.Range.{RangeState, as_range, place_at, queue_of, spans_of}
+use Rattle.mc_range.specs.Range.{RangeState, as_range, queue_of, spans_of}
 use Rattle.mc_range.specs.Serving.{told_syncs, packets_in, syncs_of, serves_track, serves_sub, sub_block, serves_by, head_at, heads_by, heads_of, HoldsFilm, AreHeads}
 use Rattle.mc_range.proofs.Places.{same_lane}
 

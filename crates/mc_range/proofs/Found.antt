@@ -1,6 +1,6 @@
 -- What a queue's look-ups find is what the definitions over told packets find among its sync points.
-use Rattle.std.proofs.Common.{◌≡◌, ℕ, ◌+◌, ◌<◌, ◌≤◌, Bool, true, false, ◌&&◌, ◌||◌, ◌⊎◌, Option, Some, None, List, [], ◌∷◌, ℤ, arith, refl, ap, sym, ◌∙◌, inl, inr}
-use Rattle.std.specs.Prelude.{map, nat_le, if◌then◌else◌, int_le, int_lt}
+use Rattle.std.proofs.Common.{◌≡◌, ℕ, ◌+◌, ◌≤◌, Bool, true, false, ◌&&◌, ◌||◌, ◌⊎◌, Option, Some, None, List, [], ◌∷◌, ℤ, arith, refl, ap, sym, ◌∙◌, inl, inr}
+use Rattle.std.specs.Prelude.{map, if◌then◌else◌, int_le, int_lt}
 use Rattle.std.specs.List.{filter, find, list_any}
 use Rattle.std.specs.Option.{option_map}
 use Rattle.std.proofs.lemmas.Bool.{cases_Bool, lt-leb, le-leb}
@@ -8,7 +8,7 @@ use Rattle.mc_packet.specs.declared.packet.Packet.{Packet}
 use Rattle.mc_packet.specs.declared.packet.Pos.{Pos}
 use Rattle.mc_packet.specs.declared.choice.Dir.{Dir}
 use Rattle.mc_packet.specs.declared.choice.Dir.TheVariants.{Back, Forward}
-use Rattle.mc_journal.specs.Told.{Told, told}
+use Rattle.mc_journal.specs.Told.{told}
 use Rattle.mc_journal.specs.Choices.{or_else}
 use Rattle.mc_journal.specs.Films.{rank, first, last, last_upto, first_from, sync_for}
 use Rattle.mc_journal.specs.Ranges.{any_from, any_below}

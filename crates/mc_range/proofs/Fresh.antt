@@ -1,5 +1,5 @@
 -- What a queue takes of packets, and what becomes of it.
-use Rattle.std.proofs.Common.{◌≡◌, ℕ, ◌+◌, ◌^◌, ◌<◌, ◌≤◌, Bool, true, false, Option, Some, None, List, [], ◌∷◌, ◌++◌, length, arith, refl, ap, subst, sym, ◌∙◌}
+use Rattle.std.proofs.Common.{◌≡◌, ℕ, ◌+◌, ◌≤◌, true, Option, Some, None, List, [], ◌∷◌, refl, ap, sym, ◌∙◌}
 use Rattle.std.specs.Prelude.{◌==◌}
 use Rattle.std.proofs.lemmas.Bool.{eq-eqb}
 use Rattle.mc_packet.specs.declared.packet.Packet.{Packet}
@@ -8,8 +8,8 @@ use Rattle.mc_journal.specs.Films.{rank}
 use Rattle.mc_queue.specs.Places.{place, weights, Rise, behind, from_place}
 use Rattle.mc_queue.specs.Queue.{QueueState}
 use Rattle.mc_queue.specs.Union.{later}
-use Rattle.mc_queue.proofs.Rising.{rise_earlier, rise_later, rise_from, behind_is, less_weight_from}
-use Rattle.mc_range.specs.Growing.{of_track, news, Extends, ExtendsIn, ExtendsAll, IsForeign}
+use Rattle.mc_queue.proofs.Rising.{rise_later, rise_from, behind_is, less_weight_from}
+use Rattle.mc_range.specs.Growing.{of_track, news, ExtendsIn, ExtendsAll, IsForeign}
 use Rattle.mc_range.specs.declared.queues.Queues.{Queues}
 use Rattle.mc_range.proofs.Places.{later_is_upto}
 

@@ -1,11 +1,12 @@
 -- The packets of a chunk rise up to its end.
 use Rattle.std.proofs.Common.{◌≡◌, ℕ, suc, ◌+◌, ◌*◌, ◌<◌, ◌≤◌, List, [], ◌∷◌, length, arith, refl, inl, inr}
-use Rattle.std.specs.Prelude.{All, ⊤}
+use Rattle.std.specs.Prelude.{nat_le, pos, true, All, IsTrue, ◌^◌, sum_by}
 use Rattle.std.specs.List.{AllByRecursion}
+use Rattle.std.proofs.lemmas.Bool.{le-leb}
 use Rattle.mc_packet.specs.declared.packet.Packet.{Packet}
-use Rattle.mc_packet.specs.Shape.{StandsBefore, InOrder, AreBetween}
+use Rattle.mc_packet.specs.Shape.{StandsBefore, InOrder, AreBetween, is_near}
 use Rattle.mc_journal.specs.Films.{rank}
-use Rattle.mc_queue.specs.Places.{place, Rise}
+use Rattle.mc_queue.specs.Places.{place, Rise, weights}
 use Rattle.mc_range.specs.Range.{place_at}
 use Rattle.mc_range.specs.Growing.{RiseTogether}
 use Rattle.mc_range.proofs.Places.{rank_is}
@@ -43,3 +44,39 @@ shape_rises from to [] h = tt
 shape_rises from to (p ∷ ps) h =
     let e : rank (place_at to) ≡ to * 65536 = (let a = rank_is (place_at to) in omega arith) in
     rw e (rises p.track 0 from to (p ∷ ps) (omega arith) (refl, h.one_track.2) h.in_order h.places h.lanes (all_low (p ∷ ps)))
+
+all_one : (P : Packet → Type 0) (p : Packet) → P p → All P (p ∷ [])
+all_one P p h = λ k d l. let z : k ≡ 0 = omega arith in rw z h
+
+all_none : (P : Packet → Type 0) → All P []
+all_none P = λ k d l. absurd (omega arith)
+
+pub near : (n : ℕ) → n < 65536 → IsTrue (is_near (pos n))
+near n l = (let y : nat_le n (2 ^ 62) ≡ true = le-leb n (2 ^ 62) (omega arith) in rw y refl)
+
+-- one packet without octets, and none
+pub one_shape : (from to : ℕ) (p : Packet) (ps : List Packet) → ps ≡ p ∷ [] → 0 < p.track → p.track < 10 → from ≤ p.pos.block → p.pos.block < to
+    → p.pos.lane < 256 → IsTrue (is_near p.time) → p.body ≡ [] → AreBetween from to ps × (weights ps < 1000)
+one_shape from to p ps z t u f b l n e = rw z (
+  record {
+    few = omega arith;
+    one_track = (t, omega arith, tt);
+    in_order = (tt, tt);
+    places = all_one (λ (q : Packet). (from ≤ q.pos.block) × (q.pos.block < to)) p (f, b);
+    lanes = all_one (λ (q : Packet). q.pos.lane < 256) p l;
+    times = all_one (λ (q : Packet). IsTrue (is_near q.time)) p n;
+    payloads = let c : sum_by (λ (q : Packet). length q.body) (p ∷ []) ≡ 0 = rw e refl in omega arith;
+  },
+  let c : weights (p ∷ []) ≡ 64 = rw e refl in omega arith,
+)
+
+pub no_shape : (from to : ℕ) → AreBetween from to []
+no_shape from to = record {
+  few = omega arith;
+  one_track = tt;
+  in_order = tt;
+  places = all_none (λ (q : Packet). (from ≤ q.pos.block) × (q.pos.block < to));
+  lanes = all_none (λ (q : Packet). q.pos.lane < 256);
+  times = all_none (λ (q : Packet). IsTrue (is_near q.time));
+  payloads = omega arith;
+}

@@ -1,5 +1,5 @@
 -- What a range becomes when a part of the film behind its mark is fed to it.
-use Rattle.std.specs.Prelude.{◌≡◌, ◌≤◌, ◌<◌, ℕ, ◌+◌, ◌++◌, ◌==◌, nat_lt, Bool, true, false, ◌||◌, if◌then◌else◌, length, List, [], ◌∷◌, Option, Some, None, IsSomeAnd, ⊤}
+use Rattle.std.specs.Prelude.{◌≡◌, ◌≤◌, ◌<◌, ℕ, ◌+◌, ◌++◌, ◌==◌, nat_lt, Bool, true, false, ◌||◌, length, List, [], ◌∷◌, Option, Some, None, IsSomeAnd, ⊤}
 use Rattle.std.specs.List.{filter}
 use Rattle.mc_packet.specs.declared.packet.Packet.{Packet}
 use Rattle.mc_packet.specs.declared.packet.Pos.{Pos}
@@ -8,7 +8,7 @@ use Rattle.mc_packet.specs.declared.choice.Kind.TheVariants.{Video, Audio, Sub}
 use Rattle.mc_packet.specs.declared.walk.Chunk.{Chunk}
 use Rattle.mc_journal.specs.Choices.{or_else}
 use Rattle.mc_journal.specs.Films.{rank}
-use Rattle.mc_queue.specs.Places.{Rise, behind, from_place, is_before}
+use Rattle.mc_queue.specs.Places.{Rise, behind, from_place}
 use Rattle.mc_queue.specs.Queue.{QueueState, IsQueue, with_packets}
 use Rattle.mc_queue.specs.Union.{later}
 use Rattle.mc_range.specs.declared.queues.Queues.{Queues}

@@ -1,7 +1,6 @@
 -- A range as contracts see it: the queues of the selected tracks, and how it begins and touches another.
-use Rattle.std.specs.Prelude.{◌≡◌, ◌≤◌, ℕ, ◌+◌, ◌==◌, nat_le, Bool, true, false, ◌&&◌, if◌then◌else◌, length, List, [], Option, Some, None, IsSomeAnd, IfSome, ⊤}
+use Rattle.std.specs.Prelude.{◌≡◌, ◌≤◌, ℕ, ◌+◌, ◌==◌, Bool, true, false, ◌&&◌, if◌then◌else◌, length, Option, Some, None, IsSomeAnd, IfSome, ⊤}
 use Rattle.std.specs.Option.{option_map}
-use Rattle.mc_packet.specs.declared.packet.Packet.{Packet}
 use Rattle.mc_packet.specs.declared.packet.Pos.{Pos}
 use Rattle.mc_packet.specs.declared.choice.Choice.{Choice}
 use Rattle.mc_packet.specs.declared.choice.Starts.{Starts}

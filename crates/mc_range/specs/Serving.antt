@@ -1,5 +1,5 @@
 -- Which seeks a range serves, and from where its tracks are then read: the rule over a film's list, by what the queues hold.
-use Rattle.std.specs.Prelude.{◌≡◌, ℕ, ◌==◌, nat_le, Bool, ◌&&◌, if◌then◌else◌, List, [], map, Option, Some, None, ℤ, is_some, IfSome, IsSomeAnd, ⊤}
+use Rattle.std.specs.Prelude.{◌≡◌, ℕ, ◌==◌, nat_le, Bool, ◌&&◌, if◌then◌else◌, List, [], map, Option, Some, None, ℤ, is_some, IfSome, IsSomeAnd}
 use Rattle.std.specs.List.{filter, find}
 use Rattle.mc_packet.specs.declared.packet.Packet.{Packet}
 use Rattle.mc_packet.specs.declared.packet.Pos.{Pos}

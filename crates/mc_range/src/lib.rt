@@ -11,6 +11,8 @@ mod place;
 mod queues;
 mod range;
 mod serving;
+#[cfg(test)]
+mod tests;
 
 pub use law::served_films;
 pub use mc_packet::NoMemory;

@@ -3,7 +3,7 @@ ghost use Rattle.std.specs.Option.{option_copied};
 ghost use Rattle.mc_journal.specs.Choices.{each_of, passes};
 ghost use Rattle.mc_journal.specs.Ranges.{on_span};
 ghost use Rattle.std.specs.Prelude.{nat_le, ◌&&◌};
-ghost use Rattle.mc_range.specs.Range.{AreRoomier, Roomier, StartsAt, is_of, own, queue_of, spans_of};
+ghost use Rattle.mc_range.specs.Range.{AreRoomier, Roomier, StartsAt, is_of, own, queue_of, spans_of, weight_in, weight_of_all};
 ghost use Rattle.mc_journal.specs.Films.{rank};
 
 use crate::place::{is_upto, place_at};
@@ -92,6 +92,23 @@ pub(crate) fn reserve(queues: &mut Queues, track: TrackNo, more: u64) -> Result<
     } else {
         Ok(())
     }
+}
+
+fn weight_in(queue: &Option<Queue>) -> u64
+    ensures value { result ≡ weight_in queue.now }
+{
+    match queue {
+        Some(queue) => queue.weight(),
+        None => 0,
+    }
+}
+
+/// The weight of all packets.
+pub(crate) fn weight_of_all(queues: &Queues) -> u128
+    ensures { result ≡ weight_of_all queues.now }
+{
+    weight_in(&queues.video) as u128
+        + (weight_in(&queues.audio) as u128 + weight_in(&queues.sub) as u128)
 }
 
 fn touch_both(a: &Queue, b: &Queue) -> bool

@@ -8,7 +8,7 @@ ghost use Rattle.mc_queue.specs.Places.{weights};
 
 use crate::growing::extend;
 use crate::place::place_at;
-use crate::queues::{Queues, find, reserve, start_queue, touch_all};
+use crate::queues::{Queues, find, reserve, start_queue, touch_all, weight_of_all};
 use crate::serving::serve;
 use mc_packet::{Choice, Chunk, Dir, Ending, Heads, Mark, NoMemory, Starts, TrackNo};
 use std::alloc::Global;
@@ -92,6 +92,14 @@ impl Range {
             Some(queue) => queue.len(),
             None => 0,
         }
+    }
+
+    /// What all its packets count for in a cache, in octets: of each its payload and 64 more.
+    pub fn weight(&self) -> u128
+        ensures value { result ≡ weight_of_all self.now.queues }
+        ensures range { IsRange self.now }
+    {
+        weight_of_all(&self.queues)
     }
 
     /// Makes room for so many more packets of a track than there are, and changes nothing else. A

@@ -1,4 +1,4 @@
-use Rattle.std.proofs.Common.{◌≡◌, subst}
+use Rattle.std.proofs.Common.{subst}
 use Rattle.mc_packet.specs.declared.packet.Pos.{Pos}
 use Rattle.mc_range.specs.Growing.{ExtendsAll}
 use Rattle.mc_range.proofs.Owners.{still_range}

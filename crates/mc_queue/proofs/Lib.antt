@@ -5,3 +5,4 @@ pub mod Moving
 pub mod Uniting
 pub mod Differing
 pub mod Filmed
+pub mod Halving

@@ -1,18 +1,27 @@
-ghost use Rattle.std.specs.Prelude.{◌≡◌, reverse};
+ghost use Rattle.std.specs.Prelude.{◌≡◌, reverse, slice_get};
 ghost use Rattle.std.specs.List.{find, list_any};
 ghost use Rattle.std.specs.Option.{option_copied, option_map};
 ghost use Rattle.mc_journal.specs.Films.{rank};
-ghost use Rattle.mc_queue.specs.Places.{is_from};
+ghost use Rattle.std.specs.List.Sorted.{IsPartitionedBy};
+ghost use Rattle.mc_queue.specs.Places.{is_before, is_from};
 ghost use Rattle.mc_queue.specs.Queue.{first_that, last_that, is_sync, is_sync_before, is_sync_from, is_sync_upto};
 
 use crate::place::is_before;
 use mc_packet::{Packet, Pos};
 use std::collections::VecDeque;
 
+/// The first packet at or behind a place, found by halving: those before it stand in front.
 pub(crate) fn first_at(packets: &VecDeque<Packet>, head: Pos) -> Option<&Packet>
+    requires parted { IsPartitionedBy (is_before (rank head)) packets.now.items }
     ensures { option_copied result ≡ find (is_from (rank head)) packets.now.items }
 {
-    packets.iter().find(|p| !is_before(p.pos, head))
+    get_at(packets, packets.partition_point(|p| is_before(p.pos, head)))
+}
+
+fn get_at(packets: &VecDeque<Packet>, at: usize) -> Option<&Packet>
+    ensures { option_copied result ≡ slice_get packets.now.items at }
+{
+    packets.get(at)
 }
 
 pub(crate) fn first_sync(packets: &VecDeque<Packet>) -> Option<Pos>

@@ -1,0 +1,19 @@
+//! A range of the cache: what was read of the selected tracks of a film without a gap. It has a
+//! queue of packets for each of them, the mark from which it is read on, and the film's ending where
+//! it was reached. It is fed parts of the film, joined with another range that it touches, and says
+//! which seeks it serves and from where. Contracts see it as its set, its queues, its mark and its
+//! ending (`specs/Range`).
+#![tactic(auto)]
+
+mod growing;
+mod law;
+mod place;
+mod queues;
+mod range;
+mod serving;
+#[cfg(test)]
+mod tests;
+
+pub use law::served_films;
+pub use mc_packet::NoMemory;
+pub use range::Range;

@@ -1,0 +1,186 @@
+ghost use Rattle.std.specs.Prelude.{◌≡◌, ◌≤◌, ◌<◌, ◌+◌, ◌^◌, true, IfOk, IfSome, IsSomeAnd, OnErr, OnOk};
+ghost use Rattle.mc_journal.specs.Choices.{is_distinct, or_else};
+ghost use Rattle.mc_range.specs.Range.{AtMark, IsBegun, IsRange, IsRoomier, count, is_same, is_same_set, meets_range, queue_of, weight_of_all};
+ghost use Rattle.mc_range.specs.Growing.{IsFed, lacks_room, taker};
+ghost use Rattle.mc_range.specs.Serving.{heads_of};
+ghost use Rattle.mc_packet.specs.Shape.{HasShape};
+ghost use Rattle.mc_queue.specs.Places.{weights};
+
+use crate::growing::extend;
+use crate::place::place_at;
+use crate::queues::{Queues, find, reserve, start_queue, touch_all, weight_of_all};
+use crate::serving::serve;
+use mc_packet::{Choice, Chunk, Dir, Ending, Heads, Mark, NoMemory, Starts, TrackNo};
+use std::alloc::Global;
+use std::marker::Model;
+
+/// What was read of a film's selected tracks without a gap: a queue for each track whose start is
+/// known, the mark from which it is read on, and the film's ending where that was reached.
+#[derive(Drop)]
+pub struct Range {
+    alloc: Global,
+    set: Choice,
+    queues: Queues,
+    mark: Mark,
+    ending: Option<Ending>,
+}
+
+impl Model for Range {
+    ghost use Rattle.mc_range.specs.Range.{RangeState, IsRange};
+
+    ghost Value = { RangeState };
+
+    ghost view = { λ r. record { set = r.set; queues = r.queues; mark = r.mark; ending = r.ending } };
+
+    ghost invariant = { λ r. IsRange (record { set = r.set; queues = r.queues; mark = r.mark; ending = r.ending }) };
+}
+
+impl Range {
+    /// A range of the selected tracks that begins at their starts and holds nothing yet. A selected
+    /// track without a start has no queue.
+    pub fn new(alloc: Global, set: Choice, starts: &Starts) -> Range
+        requires distinct { is_distinct set ≡ true }
+        requires video { AtMark starts.now.mark.pos starts.now.video }
+        requires audio { AtMark starts.now.mark.pos starts.now.audio }
+        requires sub { AtMark starts.now.mark.pos starts.now.sub }
+        ensures value { IsBegun set starts.now result }
+        ensures range { IsRange result }
+    {
+        Range {
+            alloc,
+            set,
+            queues: Queues {
+                video: start_queue(alloc, set.video, starts.video),
+                audio: start_queue(alloc, set.audio, starts.audio),
+                sub: start_queue(alloc, set.sub, starts.sub),
+            },
+            mark: starts.mark,
+            ending: None,
+        }
+    }
+
+    /// The selected tracks.
+    pub fn set(&self) -> Choice
+        ensures value { result ≡ self.now.set }
+        ensures range { IsRange self.now }
+    {
+        self.set
+    }
+
+    /// Up to where the film was read, and from where it is read on.
+    pub fn mark(&self) -> Mark
+        ensures value { result ≡ self.now.mark }
+        ensures range { IsRange self.now }
+    {
+        self.mark
+    }
+
+    /// How the film ends, where the range was read so far.
+    pub fn ending(&self) -> Option<Ending>
+        ensures value { result ≡ self.now.ending }
+        ensures range { IsRange self.now }
+    {
+        self.ending
+    }
+
+    /// The number of packets of a track, 0 for one without a queue.
+    pub fn len(&self, track: TrackNo) -> u64
+        ensures value { result ≡ count (queue_of track self.now.queues) }
+        ensures range { IsRange self.now }
+    {
+        match find(&self.queues, track) {
+            Some(queue) => queue.len(),
+            None => 0,
+        }
+    }
+
+    /// What all its packets count for in a cache, in octets: of each its payload and 64 more.
+    pub fn weight(&self) -> u128
+        ensures value { result ≡ weight_of_all self.now.queues }
+        ensures range { IsRange self.now }
+    {
+        weight_of_all(&self.queues)
+    }
+
+    /// Makes room for so many more packets of a track than there are, and changes nothing else. A
+    /// track without a queue needs none. `NoMemory` comes only where there was less room, and the
+    /// range is then as it was.
+    pub fn reserve(&mut self, track: TrackNo, more: u64) -> Result<(), NoMemory>
+        ensures same { IsRoomier self.old self.new }
+        ensures ok { OnOk result (IfSome (queue_of track self.new.queues) (λ q. more ≤ q.spare)) }
+        ensures err { OnErr result (self.new ≡ self.old) }
+        ensures within { OnErr result (IsSomeAnd (queue_of track self.old.queues) (λ q. q.spare < more)) }
+        ensures range { IsRange self.new }
+    {
+        reserve(&mut self.queues, track, more)
+    }
+
+    /// Takes the part of the film behind the mark: each queue takes the packets of its track at its
+    /// end or behind it, and reaches up to the part's end, which becomes the mark. An ending that the
+    /// part has becomes the range's. Gives the track that took packets. `NoMemory` comes only where
+    /// its queue had less room than it would take packets, and the range is then as it was.
+    #[tactic(auto, using(crate::proofs::Owners::all_apart))]
+    pub fn extend(&mut self, chunk: Chunk) -> Result<Option<TrackNo>, NoMemory>
+        requires mark { chunk.from ≡ self.old.mark }
+        requires shape { HasShape chunk }
+        requires fits { weight_of_all self.old.queues + weights chunk.packets < 2 ^ 64 }
+        ensures ok { OnOk result (IsFed chunk self.old self.new) }
+        ensures taken { IfOk result (λ track. track ≡ taker chunk.packets self.old.queues) }
+        ensures err { OnErr result ((self.new ≡ self.old) × (lacks_room chunk.packets self.old.queues ≡ true)) }
+        ensures range { IsRange self.new }
+    {
+        let Chunk {
+            to,
+            packets,
+            ending,
+            ..
+        } = chunk;
+        let taken = extend(self.alloc, &mut self.queues, place_at(to.pos), packets)?;
+        self.mark = to;
+        self.ending = later_ending(ending, self.ending);
+        Ok(taken)
+    }
+
+    /// From where each track is read on after a seek to `t` nanoseconds, where the range serves it: it
+    /// then holds what shows that these are the starts over the whole film. `None` exactly where it
+    /// does not. It takes no memory.
+    pub fn serves(&self, set: Choice, t: i64, dir: Dir) -> Option<Heads>
+        ensures { result ≡ heads_of self.now set t dir }
+    {
+        serve(&self.queues, self.ending.is_some(), set, t, dir)
+    }
+
+    /// Whether the two are of one set, both have a queue for each of its tracks, and each of those
+    /// begins where the other's reaches or before. Together they then have no gap.
+    pub fn touches(&self, other: &Range) -> bool
+        ensures value { result ≡ meets_range self.now other.now }
+        ensures range { IsRange self.now }
+    {
+        is_same_set(self.set, other.set) && touch_all(&self.queues, &other.queues, self.set)
+    }
+}
+
+fn is_same(a: Option<TrackNo>, b: Option<TrackNo>) -> bool
+    ensures { result ≡ is_same a b }
+{
+    match (a, b) {
+        (None, None) => true,
+        (Some(a), Some(b)) => a == b,
+        _ => false,
+    }
+}
+
+fn is_same_set(a: Choice, b: Choice) -> bool
+    ensures { result ≡ is_same_set a b }
+{
+    is_same(a.video, b.video) && is_same(a.audio, b.audio) && is_same(a.sub, b.sub)
+}
+
+fn later_ending(ending: Option<Ending>, before: Option<Ending>) -> Option<Ending>
+    ensures { result ≡ or_else ending before }
+{
+    match ending {
+        Some(ending) => Some(ending),
+        None => before,
+    }
+}

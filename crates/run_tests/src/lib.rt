@@ -6,6 +6,8 @@ mod chunks;
 #[cfg(test)]
 mod endings;
 #[cfg(test)]
+mod exits;
+#[cfg(test)]
 mod films;
 #[cfg(test)]
 mod runs;

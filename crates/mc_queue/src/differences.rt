@@ -11,10 +11,10 @@ use std::collections::VecDeque;
 
 /// The first place at which two queues differ, and the time of the packet that each has there.
 #[derive(Clone, Copy, Debug, PartialEq, Eq)]
-pub(crate) struct Difference {
-    pub(crate) pos: Pos,
-    pub(crate) ours: Option<i64>,
-    pub(crate) other: Option<i64>,
+pub struct Difference {
+    pub pos: Pos,
+    pub ours: Option<i64>,
+    pub other: Option<i64>,
 }
 
 /// The place and time of the packet at an index, if it stands before the end.

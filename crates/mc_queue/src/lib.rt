@@ -13,5 +13,6 @@ mod queue;
 #[cfg(test)]
 mod tests;
 
+pub use differences::Difference;
 pub use mc_packet::NoMemory;
 pub use queue::{Queue, UnionError};

@@ -248,7 +248,9 @@ impl Queue {
         Ok(())
     }
 
-    fn difference(&self, other: &Queue) -> Option<Difference>
+    /// The first place that both intervals have at which the packets differ, and the time that each
+    /// has there: what `union` would refuse.
+    pub fn difference(&self, other: &Queue) -> Option<Difference>
         requires meet { Meet self.now other.now }
         ensures { Compared self.now other.now result }
     {
@@ -260,16 +262,17 @@ impl Queue {
         )
     }
 
-    /// How many packets of the other stand outside this interval.
-    fn added(&self, other: &Queue) -> usize
+    /// How many packets of the other stand outside this interval: so many `union` would take.
+    pub fn added(&self, other: &Queue) -> usize
         requires meet { Meet self.now other.now }
         ensures { result ≡ added self.now other.now }
     {
         count_outside(&other.packets, self.from, self.to)
     }
 
-    /// Takes the other's packets that stand outside this interval, into the room that there is.
-    fn absorb(&mut self, other: &mut Queue)
+    /// Takes the other's packets that stand outside this interval, into the room that there is. It is
+    /// `union` where it is known not to be refused.
+    pub fn absorb(&mut self, other: &mut Queue)
         requires meet { Meet self.old other.old }
         requires fits { weights self.old.packets + weights other.old.packets < 2 ^ 64 }
         requires room { added self.old other.old ≤ self.old.spare }

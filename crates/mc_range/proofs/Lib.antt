@@ -5,3 +5,4 @@ pub mod Owners
 pub mod Shapes
 pub mod Found
 pub mod Films
+pub mod Unions

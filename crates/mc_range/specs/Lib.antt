@@ -1,3 +1,4 @@
 pub mod Range
 pub mod Growing
 pub mod Serving
+pub mod Joining

@@ -6,6 +6,7 @@
 #![tactic(auto)]
 
 mod growing;
+mod joining;
 mod law;
 mod place;
 mod queues;
@@ -16,4 +17,5 @@ mod tests;
 
 pub use law::served_films;
 pub use mc_packet::NoMemory;
+pub use mc_queue::UnionError;
 pub use range::Range;

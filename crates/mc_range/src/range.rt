@@ -1,16 +1,19 @@
-ghost use Rattle.std.specs.Prelude.{◌≡◌, ◌≤◌, ◌<◌, ◌+◌, ◌^◌, true, IfOk, IfSome, IsSomeAnd, OnErr, OnOk};
+ghost use Rattle.std.specs.Prelude.{◌≡◌, nat_lt, if◌then◌else◌, ◌≤◌, ◌<◌, ◌+◌, ◌^◌, true, IfOk, IfSome, IfErr, IsSomeAnd, OnErr, OnOk};
 ghost use Rattle.mc_journal.specs.Choices.{is_distinct, or_else};
 ghost use Rattle.mc_range.specs.Range.{AtMark, IsBegun, IsRange, IsRoomier, count, is_same, is_same_set, meets_range, queue_of, weight_of_all};
 ghost use Rattle.mc_range.specs.Growing.{IsFed, lacks_room, taker};
 ghost use Rattle.mc_range.specs.Serving.{heads_of};
+ghost use Rattle.mc_range.specs.Joining.{IsJoined, JoinRefused, greater};
 ghost use Rattle.mc_packet.specs.Shape.{HasShape};
 ghost use Rattle.mc_queue.specs.Places.{weights};
 
 use crate::growing::extend;
+use crate::joining::join;
 use crate::place::place_at;
 use crate::queues::{Queues, find, reserve, start_queue, touch_all, weight_of_all};
 use crate::serving::serve;
 use mc_packet::{Choice, Chunk, Dir, Ending, Heads, Mark, NoMemory, Starts, TrackNo};
+use mc_queue::UnionError;
 use std::alloc::Global;
 use std::marker::Model;
 
@@ -158,6 +161,28 @@ impl Range {
     {
         is_same_set(self.set, other.set) && touch_all(&self.queues, &other.queues, self.set)
     }
+
+    /// Makes this range both together, where they touch: each queue is united with the other's, the
+    /// mark is the greater one, and the ending that of the range with the greater mark, or of the other
+    /// where only that has one. The other is left without queues. It is refused with `Mismatch` exactly
+    /// where the packets of a track differ at a place that both have, in the first such track by
+    /// number, and with `NoMemory` only where there was too little room; both are then as they were.
+    #[tactic(auto, using(crate::proofs::Unions::roomier_range))]
+    pub fn join(&mut self, other: &mut Range) -> Result<(), UnionError>
+        requires touch { meets_range self.old other.old ≡ true }
+        requires fits { weight_of_all self.old.queues + weight_of_all other.old.queues < 2 ^ 64 }
+        ensures ok { OnOk result (IsJoined self.old other.old self.new other.new) }
+        ensures err { IfErr result (λ e. JoinRefused self.old other.old e) }
+        ensures same { OnErr result (IsRoomier self.old self.new × (other.new ≡ other.old)) }
+        ensures range { IsRange self.new }
+    {
+        let mark = greater(self.mark, other.mark);
+        let ending = joined_ending((self.mark, self.ending), (other.mark, other.ending));
+        join(&mut self.queues, &mut other.queues)?;
+        self.mark = mark;
+        self.ending = ending;
+        Ok(())
+    }
 }
 
 fn is_same(a: Option<TrackNo>, b: Option<TrackNo>) -> bool
@@ -182,5 +207,22 @@ fn later_ending(ending: Option<Ending>, before: Option<Ending>) -> Option<Ending
     match ending {
         Some(ending) => Some(ending),
         None => before,
+    }
+}
+
+/// The greater of two marks, the first where they stand at one offset.
+fn greater(a: Mark, b: Mark) -> Mark
+    ensures { result ≡ greater a b }
+{
+    if a.pos < b.pos { b } else { a }
+}
+
+fn joined_ending(own: (Mark, Option<Ending>), other: (Mark, Option<Ending>)) -> Option<Ending>
+    ensures { result ≡ (if nat_lt own.0.pos other.0.pos then or_else other.1 own.1 else or_else own.1 other.1) }
+{
+    if own.0.pos < other.0.pos {
+        later_ending(other.1, own.1)
+    } else {
+        later_ending(own.1, other.1)
     }
 }

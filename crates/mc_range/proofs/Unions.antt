@@ -1,21 +1,19 @@
 -- Ranges that touch have queues that meet; making room changes nothing of what is united; and what is joined is a range.
-use Rattle.std.proofs.Common.{◌≡◌, ℕ, ◌+◌, ◌*◌, ◌^◌, ◌<◌, ◌≤◌, Bool, true, false, ◌⊎◌, ◌||◌, ◌&&◌, Option, Some, None, arith, refl, ap, subst, sym, ◌∙◌, inl, inr}
-use Rattle.std.specs.Prelude.{◌==◌, nat_lt, nat_le, if◌then◌else◌}
+use Rattle.std.proofs.Common.{◌≡◌, ℕ, ◌≤◌, Bool, true, false, ◌⊎◌, ◌||◌, ◌&&◌, Option, Some, None, arith, refl, ap, sym, ◌∙◌, inl, inr}
+use Rattle.std.specs.Prelude.{◌==◌, nat_lt, nat_le}
 use Rattle.std.specs.Option.{option_map}
 use Rattle.std.proofs.lemmas.Bool.{cases_Bool, eq-eqb, eqb-true, eqb-false, ne_eqb, not-true, leb-true, and_parts}
-use Rattle.mc_packet.specs.declared.choice.Choice.{Choice}
 use Rattle.mc_packet.specs.declared.walk.Ending.{Ending}
 use Rattle.mc_packet.specs.declared.walk.Mark.{Mark}
-use Rattle.mc_journal.specs.Choices.{or_else, passes, is_other, is_distinct}
+use Rattle.mc_journal.specs.Choices.{or_else, passes, is_other}
 use Rattle.mc_journal.specs.Films.{rank, first_lane}
 use Rattle.mc_journal.specs.Ranges.{on_span}
-use Rattle.mc_queue.specs.Places.{weights}
-use Rattle.mc_queue.specs.Queue.{QueueState, with_spare}
-use Rattle.mc_queue.specs.Union.{Meet, earlier, later, added}
+use Rattle.mc_queue.specs.Queue.{QueueState}
+use Rattle.mc_queue.specs.Union.{later, added}
 use Rattle.mc_range.specs.declared.queues.Queues.{Queues}
-use Rattle.mc_range.specs.Range.{RangeState, QueueIn, IsRange, Roomier, AreRoomier, is_of, own, queue_of, span_of, spans_of, weight_in, weight_of_all, is_same, is_same_set, meets_range}
-use Rattle.mc_range.specs.Growing.{AreApart, IsSound, AllSound}
-use Rattle.mc_range.specs.Joining.{MeetIn, UnitesIn, lacks_for, lacks_any, AllMeet, AllUnited, HasRoom, HaveRoom, greater}
+use Rattle.mc_range.specs.Range.{RangeState, QueueIn, IsRange, Roomier, AreRoomier, own, queue_of, span_of, weight_in, weight_of_all, is_same, is_same_set, meets_range}
+use Rattle.mc_range.specs.Growing.{IsSound, AllSound}
+use Rattle.mc_range.specs.Joining.{MeetIn, UnitesIn, lacks_for, lacks_any, AllMeet, AllUnited, greater}
 use Rattle.mc_range.proofs.Places.{later_is_upto}
 
 -- ---- room

@@ -1,6 +1,5 @@
 -- Two ranges that touch, joined: the union of each queue; or where their packets differ.
-use Rattle.std.specs.Prelude.{◌≡◌, ◌≤◌, ◌<◌, ℕ, ◌+◌, nat_lt, nat_le, Bool, true, false, ◌||◌, if◌then◌else◌, Option, Some, None, Result, Ok, Err, IsSomeAnd, ℤ, ⊤}
-use Rattle.mc_packet.specs.declared.packet.Pos.{Pos}
+use Rattle.std.specs.Prelude.{◌≡◌, ◌≤◌, ◌+◌, nat_lt, nat_le, Bool, true, false, ◌||◌, if◌then◌else◌, Option, Some, None, Result, Ok, Err, IsSomeAnd, ⊤}
 use Rattle.mc_packet.specs.declared.walk.Ending.{Ending}
 use Rattle.mc_packet.specs.declared.walk.Mark.{Mark}
 use Rattle.mc_journal.specs.Choices.{or_else}
@@ -8,7 +7,7 @@ use Rattle.mc_queue.specs.declared.differences.Difference.{Difference}
 use Rattle.mc_queue.specs.declared.queue.UnionError.{UnionError}
 use Rattle.mc_queue.specs.declared.queue.UnionError.TheVariants.{NoMemory, Mismatch}
 use Rattle.mc_queue.specs.Queue.{QueueState, with_packets}
-use Rattle.mc_queue.specs.Union.{Meet, Compared, AgreeWhereShared, earlier, later, united, added}
+use Rattle.mc_queue.specs.Union.{Meet, Compared, earlier, later, united, added}
 use Rattle.mc_range.specs.declared.queues.Queues.{Queues}
 use Rattle.mc_range.specs.declared.joining.Numbered.{Numbered}
 use Rattle.mc_range.specs.Range.{RangeState, AreRoomier}

@@ -10,7 +10,7 @@ use Rattle.mc_walk.proofs.Joining.{parts-are-whole}
 use Rattle.mc_film.specs.declared.whole.WholeFilm.{WholeFilm}
 use Rattle.mc_film.specs.Film.{whole, FilmIsItsFrames, FilmIsItsParts}
 
-opens : (octets : List ℕ) (plan : Plan) → opened_film octets ≡ Ok plan → plan.opening ≤ length plan.octets
+pub opens : (octets : List ℕ) (plan : Plan) → opened_film octets ≡ Ok plan → plan.opening ≤ length plan.octets
 opens octets plan opened = (IfOk-at_ok (λ (plan : Plan). OpensIn (length plan.octets) plan.opening) opened (opened-lies octets)).1
 
 pub is-its-frames : (octets : List ℕ) (plan : Plan) (f : WholeFilm) → opened_film octets ≡ Ok plan → f ≡ whole plan → FilmIsItsFrames octets f

@@ -1,3 +1,5 @@
 pub mod Searching
 pub mod Walking
 pub mod Laws
+pub mod Reopening
+pub mod Chunking

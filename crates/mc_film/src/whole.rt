@@ -1,7 +1,9 @@
 ghost use Rattle.std.specs.Prelude.{◌≡◌, ◌<◌, ◌≤◌, length, IfOk};
 ghost use Rattle.mc_film.specs.declared.whole.FilmError.TheVariants as failures;
 ghost use Rattle.mc_walk.specs.Opening.{opened_film};
+ghost use Rattle.mc_walk.specs.Parts.{opening_mark};
 ghost use Rattle.mc_film.specs.Film.{Gives, film_of, whole, FilmIsItsFrames, FilmIsItsParts};
+ghost use Rattle.mc_film.specs.Chunks.{IsMarkIn};
 
 use crate::opening::{find_segment, read_header};
 use crate::step::walk_on;
@@ -97,12 +99,13 @@ fn read_whole(alloc: Global, plan: Plan) -> Result<WholeFilm, NoMemory>
 ///
 /// The packets are the frames of the block elements that stand in the film up to its ending: each
 /// frame once, in file order, at the offset of its block's element. Read part by part, from mark
-/// to mark, the film has the same packets and ends in the same way.
+/// to mark, the film has the same packets and ends in the same way; the opening mark is the first.
 #[tactic(auto, unfolding(crate::specs::Film::film_of))]
 pub fn film_of_octets(alloc: Global, octets: Bytes) -> Result<WholeFilm, FilmError>
     ensures film { Gives result (film_of octets) }
     ensures frames { IfOk result (FilmIsItsFrames octets) }
     ensures parts { IfOk result (FilmIsItsParts octets) }
+    ensures opening { IfOk result (λ f. IsMarkIn octets opening_mark) }
 {
     let plan = open(alloc, octets)?;
     Ok(read_whole(alloc, plan)?)
@@ -114,6 +117,7 @@ pub fn film(alloc: Global, bytes: &[u8]) -> Result<WholeFilm, FilmError>
     ensures film { Gives result (film_of bytes.now) }
     ensures frames { IfOk result (FilmIsItsFrames bytes.now) }
     ensures parts { IfOk result (FilmIsItsParts bytes.now) }
+    ensures opening { IfOk result (λ f. IsMarkIn bytes.now opening_mark) }
 {
     film_of_octets(alloc, Bytes::copy_from_slice(alloc, bytes)?)
 }

@@ -98,6 +98,14 @@ in_film octets part at stop false is some = grind (arith, nat_tests)
 pub part_in_film : (octets part : List ℕ) (at stop : ℕ) → Some part ≡ part_of octets at stop → stop ≤ length octets
 part_in_film octets part at stop some = in_film octets part at stop (nat_lt (length octets) stop) refl some
 
+-- what fills the front of twelve octets is that much of a film, where the film reaches so far
+pub front_read : (octets buf zeros : List ℕ) (at n : ℕ) (whole : Bool) → whole ≡ true → length zeros ≡ 12 → n ≤ 12 → (if whole then Some buf else None) ≡ part_of octets at (at + length (take n zeros))
+    → Some buf ≡ part_of octets at (at + n)
+front_read octets buf zeros at n whole is twelve few read =
+    let fills : length (take n zeros) ≡ n = omega (arith, length-take n zeros, twelve, few) in
+    let filled : Some buf ≡ part_of octets at (at + length (take n zeros)) = rw is at read in
+    rw fills at filled
+
 pub glance_value : (plan : Plan) (place : ℕ) (b : Unread) (g : Glance) (n : ℕ) (front seen : List ℕ) (time : Option ℕ) → b.role ≡ roles.SimpleBlock → b.at ≤ b.stop → b.stop ≤ b.at + 67108864
     → n ≡ min (b.stop - b.at) 12 → Some front ≡ part_of plan.octets b.at (b.at + n) → seen ≡ front → time ≡ time_of b.level → ends_before plan.octets b.stop ≡ false
     → ((body : List ℕ) → length body ≤ 67108864 → seen ≡ take 12 body → Tells g (marked (block_element_of plan.tracks plan.scale place time roles.SimpleBlock body)))

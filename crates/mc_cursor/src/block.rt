@@ -13,7 +13,7 @@ ghost use Rattle.mc_cursor.specs.Steps.{IsBlock, or_damaged, taken_of};
 
 use crate::cursor::Cursor;
 use crate::error::CursorError;
-use crate::reading::{read_ends_before, read_part};
+use crate::reading::{read_ends_before, read_part, read_whole};
 use crate::step::{Unread, cluster_time};
 use bytes::Bytes;
 use mc_outside::{ReadFault, Shelf};
@@ -143,22 +143,24 @@ impl Cursor {
         shelf: &mut S,
         place: u64,
         block: Unread,
-    ) -> Result<Result<Glance, Ending>, CursorError>
+    ) -> Result<Result<Glance, Ending>, ReadFault>
         requires order { (block.at ≤ block.stop) × (block.stop ≤ block.at + 67108864) }
         requires role { block.role ≡ Role.SimpleBlock }
         ensures value { IfOk result (λ r. Told (content (S.files shelf.old) (S.opened shelf.old) self.now.file.0) (λ octets. block.at ≤ length octets → Glanced place r (mark_taken (taken_of (plan_for octets self.now) place block)))) }
-        ensures cause { ReadCause (S.faults shelf.old) (S.faults shelf.new) result }
+        ensures cause { HasCause (S.faults shelf.old) (S.faults shelf.new) result }
         ensures kept { KeepsRead (S.files shelf.old) (S.files shelf.new) (S.opened shelf.old) (S.opened shelf.new) (S.reach shelf.old) (S.reach shelf.new) block.stop }
     {
-        let end = block.at + (block.stop - block.at).min(FRONT);
-        let Some(front) = read_part(self.alloc, shelf, self.file, block.at, end)? else {
+        let size = (block.stop - block.at).min(FRONT);
+        let mut octets = [0u8; 12];
+        let front = &mut octets[..size as usize];
+        if !read_whole(shelf, self.file, block.at, front)? {
             return Ok(Err(Ending::Cut(place)));
-        };
-        if read_ends_before(shelf, self.file, end, block.stop)? {
+        }
+        if read_ends_before(shelf, self.file, block.at + size, block.stop)? {
             return Ok(Err(Ending::Cut(place)));
         }
         let time = cluster_time(block.level);
-        Ok(Ok(simple_glance(&self.tracks, self.scale, place, time, front.as_slice())))
+        Ok(Ok(simple_glance(&self.tracks, self.scale, place, time, front)))
     }
 
     // The first packet of a SimpleBlock; one with a lace is read whole.

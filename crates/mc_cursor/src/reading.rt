@@ -1,4 +1,4 @@
-ghost use Rattle.std.specs.Prelude.{◌≡◌, ◌+◌, ◌-◌, ◌^◌, ◌<◌, ◌≤◌, length, take, Option, IfOk, IfSome, IsTrue};
+ghost use Rattle.std.specs.Prelude.{◌≡◌, ◌+◌, ◌-◌, ◌^◌, ◌<◌, ◌≤◌, if◌then◌else◌, length, take, Option, Some, None, IfOk, IfSome, IsTrue};
 ghost use Rattle.mc_ebml.specs.Element.{head_at};
 ghost use Rattle.mc_outside.specs.Causes.{HasCause};
 ghost use Rattle.mc_outside.specs.Shelf.{KeepsRead, content};
@@ -83,6 +83,23 @@ pub(crate) fn read_ends_before<S: Shelf>(
     Ok(read_full(shelf, file, stop - 1, &mut last)? == 0)
 }
 
+/// Fills `buf` with the octets of a film from `at` on, up to which it reaches, and tells whether the
+/// film has so many. It takes no memory.
+pub(crate) fn read_whole<S: Shelf>(
+    shelf: &mut S,
+    file: FileNo,
+    at: u64,
+    buf: &mut [u8],
+) -> Result<bool, ReadFault>
+    requires { at + length buf.old < 2 ^ 64 }
+    ensures value { IfOk result (λ whole. Told (content (S.files shelf.old) (S.opened shelf.old) file.0) (λ octets. at ≤ length octets → (if whole then Some buf.new else None) ≡ part_of octets at (at + length buf.old))) }
+    ensures cause { HasCause (S.faults shelf.old) (S.faults shelf.new) result }
+    ensures kept { KeepsRead (S.files shelf.old) (S.files shelf.new) (S.opened shelf.old) (S.opened shelf.new) (S.reach shelf.old) (S.reach shelf.new) (at + length buf.old) }
+{
+    let size = buf.len();
+    Ok(read_full(shelf, file, at, buf)? == size)
+}
+
 /// The octets of a film from `at`, up to which it reaches, to `stop`; `None` where it does not
 /// reach so far.
 pub(crate) fn read_part<S: Shelf>(
@@ -100,8 +117,7 @@ pub(crate) fn read_part<S: Shelf>(
 {
     let size = (stop - at) as usize;
     let mut body = vec![in alloc; 0u8; size]?;
-    let count = read_full(shelf, file, at, body.as_mut_slice())?;
-    if count < size {
+    if !read_whole(shelf, file, at, body.as_mut_slice())? {
         return Ok(None);
     }
     Ok(Some(Bytes::from_vec(body)?))

@@ -2,4 +2,12 @@ pub mod Text
 pub mod CacheText
 pub mod Transcript
 pub mod Words
+pub mod Options
+pub mod Settings
 pub mod Exits
+pub mod Forms
+pub mod Lines
+pub mod Script
+pub mod Reading
+pub mod Grammar
+pub mod RunLines

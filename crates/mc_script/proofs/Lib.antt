@@ -1,0 +1,4 @@
+pub mod SecondsLemmas
+pub mod ReturnLemmas
+pub mod ReadingLemmas
+pub mod TextLemmas

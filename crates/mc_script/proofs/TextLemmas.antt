@@ -1,10 +1,9 @@
 -- A text that is refused as a whole, or read.
 use Rattle.std.proofs.Common.{◌≡◌, ◌≤◌, List, ℕ, length, refl, inl, inr}
-use Rattle.std.specs.Prelude.{Bool, true, false, nat_le, Result, Ok, Err}
+use Rattle.std.specs.Prelude.{false, Err}
 use Rattle.std.specs.Str.{IsUtf8, is_utf8}
 use Rattle.std.proofs.lemmas.Bool.{le-leb, cases_Bool}
 use Rattle.std.proofs.lemmas.Str.{IsUtf8-from_is_utf8, is_utf8-from_IsUtf8}
-use Rattle.mc_script.specs.declared.acts.ScriptError.{ScriptError}
 use Rattle.mc_script.specs.declared.acts.ScriptWhy.TheVariants.{Utf8}
 use Rattle.mc_script.specs.Script.{acts_from, script_lines, script_of}
 

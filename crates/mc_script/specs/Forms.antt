@@ -1,5 +1,5 @@
 -- The forms of a script's lines, and what they mean.
-use Rattle.std.specs.Prelude.{ℕ, ℤ, Bool, true, false, not, ◌+◌, if◌then◌else◌, List, [], ◌∷◌, take, drop, position, codes, Option, Some, None, Result, Ok, Err}
+use Rattle.std.specs.Prelude.{ℕ, ℤ, Bool, true, not, ◌+◌, if◌then◌else◌, List, [], ◌∷◌, take, drop, position, codes, Option, Some, None, Result, Err}
 use Rattle.std.specs.Option.{option_map, ok_or}
 use Rattle.std.specs.Str.{bytes_eq}
 use Rattle.mc_packet.specs.declared.choice.Dir.{Dir}

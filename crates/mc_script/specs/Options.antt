@@ -1,5 +1,5 @@
 -- The line grammar of `run`: run OPTIONS FILE [SCRIPT].
-use Rattle.std.specs.Prelude.{ℕ, ℤ, pos, nat_le, ◌+◌, ◌*◌, Bool, false, true, ◌&&◌, if◌then◌else◌, List, [], ◌∷◌, take, drop, length, Option, Some, None, unwrap_or, option_and_then, codes}
+use Rattle.std.specs.Prelude.{ℕ, ℤ, pos, nat_le, ◌+◌, ◌*◌, ◌&&◌, if◌then◌else◌, List, [], ◌∷◌, take, drop, length, Option, Some, None, unwrap_or, option_and_then, codes}
 use Rattle.std.specs.Option.{option_map}
 use Rattle.std.specs.Str.{bytes_eq}
 use Rattle.mc_packet.specs.declared.cache.Limits.{Limits}

@@ -1,5 +1,5 @@
 -- The line grammar of `run` by what stands in it: the options' words, and FILE or FILE SCRIPT behind them.
-use Rattle.std.specs.Prelude.{◌≡◌, ◌≤◌, ℕ, ◌+◌, List, [], ◌∷◌, ◌++◌, length, Some, codes}
+use Rattle.std.specs.Prelude.{◌≡◌, ◌≤◌, ◌<◌, ℕ, ◌+◌, List, [], ◌∷◌, ◌++◌, length, Some, IfSome, codes}
 use Rattle.mc_value.specs.Numbers.{number_of}
 use Rattle.mc_script.specs.declared.options.RunLine.{RunLine}
 use Rattle.mc_script.specs.declared.options.Setting.{Setting}
@@ -26,3 +26,8 @@ pub record IsRunLine (words : List (List ℕ)) (line : RunLine) : Type 0 where
   pub order : words ≡ codes "run" ∷ options ++ names
   pub set : Sets nothing_chosen options chosen
   pub named : names_at chosen (1 + length options) names ≡ Some line
+
+-- the names are words of so many
+pub record IsWithin (count : ℕ) (line : RunLine) : Type 0 where
+  pub file : line.file < count
+  pub script : IfSome line.script (λ n. n < count)

@@ -7,7 +7,7 @@ use Rattle.mc_command.specs.Lines.{line_words}
 use Rattle.mc_script.specs.declared.acts.Act.{Act}
 use Rattle.mc_script.specs.declared.acts.Act.TheVariants as acts
 use Rattle.mc_script.specs.declared.acts.ScriptWhy.{ScriptWhy}
-use Rattle.mc_script.specs.declared.acts.ScriptWhy.TheVariants.{Size, Utf8, Word, Number}
+use Rattle.mc_script.specs.declared.acts.ScriptWhy.TheVariants.{Size, Utf8, Word}
 use Rattle.mc_script.specs.declared.acts.ScriptError.{ScriptError}
 use Rattle.mc_script.specs.declared.acts.ScriptError.TheVariants as failures
 use Rattle.mc_script.specs.Forms.{words_act}
@@ -21,15 +21,16 @@ abbrev pub is_comment : List ℕ → Bool
 is_comment [] = false
 is_comment (c ∷ cs) = c == 35
 
+-- an act that is there
+abbrev pub some_act : Result Act ScriptWhy → Result (Option Act) ScriptWhy
+some_act (Ok act) = Ok (Some act)
+some_act (Err why) = Err why
+
 -- an act of these words, if there are any
 abbrev pub act_of_words : Bool → Result (List (List ℕ)) ℕ → Result (Option Act) ScriptWhy
 act_of_words out (Err n) = Err Word
 act_of_words out (Ok []) = Ok None
 act_of_words out (Ok (w ∷ ws)) = some_act (words_act out w ws)
-  where
-    some_act : Result Act ScriptWhy → Result (Option Act) ScriptWhy
-    some_act (Ok act) = Ok (Some act)
-    some_act (Err why) = Err why
 
 -- the act of a line, none where it is skipped, or why it is refused; whether a job is out where it stands
 abbrev pub line_act : Bool → List ℕ → Result (Option Act) ScriptWhy

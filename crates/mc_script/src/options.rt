@@ -1,5 +1,6 @@
-ghost use Rattle.std.specs.Prelude.{◌≡◌, ◌+◌, ◌≤◌, IfSome, is_some, if◌then◌else◌, string_bytes, map};
+ghost use Rattle.std.specs.Prelude.{◌≡◌, ◌+◌, ◌≤◌, IfSome, Some, string_bytes, map, length};
 ghost use Rattle.mc_script.specs.Options.{between, limits_of, names_at, nanoseconds, nothing_chosen, number_behind, options_at, run_line, set_in, setting_of};
+ghost use Rattle.mc_script.specs.RunLines.{IsRunLine, IsWithin};
 ghost use Rattle.mc_script.specs.Settings.{settings};
 
 use crate::words::is_file_name;
@@ -150,6 +151,17 @@ fn read_options(chosen: Chosen, at: u32, words: &[String]) -> Option<RunLine>
 /// or more decimal digits. FILE and SCRIPT are not empty and do not begin with a dash. `None`
 /// exactly where the words are not in this grammar. It takes no memory.
 pub fn parse_run_line(words: &[String]) -> Option<RunLine>
+    ensures value { result ≡ run_line (map string_bytes words.now) }
+    // The words are the line that is answered.
+    ensures said { IfSome result (IsRunLine (map string_bytes words.now)) }
+    // They are no other.
+    ensures only { (line : RunLine) → IsRunLine (map string_bytes words.now) line → result ≡ Some line }
+    ensures within { IfSome result (IsWithin (length words.now)) }
+{
+    read_line(words)
+}
+
+fn read_line(words: &[String]) -> Option<RunLine>
     ensures { result ≡ run_line (map string_bytes words.now) }
 {
     match words {

@@ -1,7 +1,10 @@
-ghost use Rattle.std.specs.Prelude.{◌≡◌, ◌≤◌, ◌<◌, ◌+◌, ◌-◌, ◌^◌, [], OnOk, false, length};
+ghost use Rattle.std.specs.Prelude.{◌≡◌, ◌≤◌, ◌<◌, ◌+◌, ◌-◌, ◌^◌, [], OnOk, Result, List, ℕ, false, length};
 ghost use Rattle.std.specs.Str.Lines.{strip_carriage_return};
+ghost use Rattle.mc_script.specs.Grammar.{Found, Says};
 ghost use Rattle.mc_script.specs.Reading.{Takes};
 ghost use Rattle.mc_script.specs.Script.{Gives, MeansAt, acts_from, line_act, out_after, script_lines, script_of};
+ghost use Rattle.mc_script.specs.declared.acts.Act.{Act};
+ghost use Rattle.mc_script.specs.declared.acts.ScriptWhy.{ScriptWhy};
 ghost use Rattle.mc_script.specs.declared.acts.ScriptError.TheVariants.{Refused};
 
 use crate::acts::{Act, Script, ScriptError, ScriptWhy};
@@ -23,6 +26,10 @@ const MOST_OCTETS: usize = 16_777_216;
 /// is none for the acts.
 pub fn parse_script(alloc: Global, bytes: &[u8]) -> Result<Script, ScriptError>
     ensures value { Gives result (script_of bytes.now) }
+    // The acts, or the refusal, are what the text says, line by line and word by word.
+    ensures said { Found result (Says bytes.now) }
+    // It says nothing else.
+    ensures only { (said : Result (List (ℕ × Act)) (ℕ × ScriptWhy)) → Says bytes.now said → Gives result said }
 {
     parse_octets(alloc, bytes)
 }

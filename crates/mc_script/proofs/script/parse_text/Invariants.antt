@@ -1,8 +1,4 @@
-use Rattle.std.proofs.Common.{◌≡◌, ◌++◌, List, ℕ, length, map}
-use Rattle.std.specs.Prelude.{false}
-use Rattle.std.specs.Str.Lines.{strip_carriage_return}
-use Rattle.mc_script.specs.Reading.{resumed}
-use Rattle.mc_script.specs.Script.{acts_from}
+use Rattle.std.proofs.Common.{map}
 use Rattle.mc_script.proofs.ReadingLemmas.{IsReadTo}
 use Rattle.mc_script.proofs.script.parse_text.Given as goal
 

@@ -15,7 +15,7 @@ use Rattle.mc_script.specs.declared.acts.ScriptWhy.TheVariants.{Size, Utf8, Numb
 use Rattle.mc_script.specs.Forms.{Form, act_in, act_of, may_stand}
 use Rattle.mc_script.specs.Script.{Gives, act_of_words, acts_from, before_acts, is_comment, line_act, out_after, script_lines, script_of, some_act}
 use Rattle.mc_script.specs.Reading.{behind_acts}
-use Rattle.mc_script.specs.Grammar.{AreActs, Found, HasForm, IsFirstBad, IsRefused, Says, SaysLine, is_out}
+use Rattle.mc_script.specs.Grammar.{AreActs, Found, HasForm, IsFirstBad, IsRefused, IsScript, Says, SaysLine, is_out}
 use Rattle.mc_script.specs.Grammar.SaysLine.{comment, no_words, act, bad_words, no_form, no_place, bad_number}
 use Rattle.mc_script.specs.Grammar.AreActs.{none, skipped, more}
 use Rattle.mc_script.specs.Grammar.IsRefused.{too_long, no_text, at_line}
@@ -149,6 +149,9 @@ of_size text small = elim (cases_Bool (is_utf8 text)) [ inl told ↦ rw told (in
 
 pub text_says : (text : List ℕ) → Says text (script_of text)
 text_says text = elim (cases_Bool (nat_le (length text) 16777216)) [ inl told ↦ rw told (of_size text (leb-true (length text) 16777216 told)) | inr told ↦ rw told (too_long text (leb-false (length text) 16777216 told)) ]
+
+pub acts_of_text : (text : List ℕ) (acts : List (ℕ × Act)) → script_of text ≡ Ok acts → acts_from 1 false (script_lines text) ≡ Ok acts
+acts_of_text text acts e = let is : IsScript text acts = subst (Says text) e (text_says text) in all_acts (script_lines text) acts is.read
 
 -- a call's answer
 

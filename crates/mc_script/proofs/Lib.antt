@@ -5,3 +5,4 @@ pub mod TextLemmas
 pub mod RunLineLemmas
 pub mod FormLemmas
 pub mod GrammarLemmas
+pub mod PairingLemmas

@@ -35,12 +35,12 @@ record IsNumbered (name w : List ℕ) (n : ℕ) : Type 0 where
 numbered : (name w : List ℕ) (n : ℕ) → number_behind name w ≡ Some n → IsNumbered name w n
 numbered name w n = elim (cases_Bool (bytes_eq (take (length name) w) name)) [ inl told ↦ rw told (λ e. record { digits = drop (length name) w; word = ap (λ v. v ++ drop (length name) w) (sym (same_octets (take (length name) w) name told)) ∙ take-append-drop (length name) w; number = e }) | inr told ↦ rw told (λ e. cc) ]
 
-record IsBetween (least most : ℕ) (o : Option ℕ) (n : ℕ) : Type 0 where
-  number : o ≡ Some n
-  low : least ≤ n
-  high : n ≤ most
+pub record IsBetween (least most : ℕ) (o : Option ℕ) (n : ℕ) : Type 0 where
+  pub number : o ≡ Some n
+  pub low : least ≤ n
+  pub high : n ≤ most
 
-in_range : (least most : ℕ) (o : Option ℕ) (n : ℕ) → between least most o ≡ Some n → IsBetween least most o n
+pub in_range : (least most : ℕ) (o : Option ℕ) (n : ℕ) → between least most o ≡ Some n → IsBetween least most o n
 in_range least most None n = λ e. cc
 in_range least most (Some m) n = elim (cases_Bool (nat_le least m)) [ inl low ↦ elim (cases_Bool (nat_le m most)) [ inl high ↦ rw (low, high) (λ e. subst (IsBetween least most (Some m)) (some_same e) (record { number = refl; low = leb-true least m low; high = leb-true m most high })) | inr high ↦ rw (low, high) (λ e. cc) ] | inr low ↦ rw low (λ e. cc) ]
   where

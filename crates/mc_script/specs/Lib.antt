@@ -11,3 +11,4 @@ pub mod Script
 pub mod Reading
 pub mod Grammar
 pub mod RunLines
+pub mod Pairing

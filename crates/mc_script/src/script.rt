@@ -1,6 +1,7 @@
-ghost use Rattle.std.specs.Prelude.{◌≡◌, ◌≤◌, ◌<◌, ◌+◌, ◌-◌, ◌^◌, [], OnOk, Result, List, ℕ, false, length};
+ghost use Rattle.std.specs.Prelude.{◌≡◌, ◌≤◌, ◌<◌, ◌+◌, ◌-◌, ◌^◌, [], IfOk, OnOk, Result, List, ℕ, false, length};
 ghost use Rattle.std.specs.Str.Lines.{strip_carriage_return};
 ghost use Rattle.mc_script.specs.Grammar.{Found, Says};
+ghost use Rattle.mc_script.specs.Pairing.{AreBounded, IsPaired};
 ghost use Rattle.mc_script.specs.Reading.{Takes};
 ghost use Rattle.mc_script.specs.Script.{Gives, MeansAt, acts_from, line_act, out_after, script_lines, script_of};
 ghost use Rattle.mc_script.specs.declared.acts.Act.{Act};
@@ -30,6 +31,10 @@ pub fn parse_script(alloc: Global, bytes: &[u8]) -> Result<Script, ScriptError>
     ensures said { Found result (Says bytes.now) }
     // It says nothing else.
     ensures only { (said : Result (List (ℕ × Act)) (ℕ × ScriptWhy)) → Says bytes.now said → Gives result said }
+    // A job is taken and given in turn, with no plain `demux` and no `drain` between.
+    ensures paired { IfOk result (IsPaired false) }
+    // Counts are 1 to 1000000, and times at most 2^62 nanoseconds on either side of 0.
+    ensures bounded { IfOk result AreBounded }
 {
     parse_octets(alloc, bytes)
 }

@@ -6,3 +6,4 @@ pub mod RunLineLemmas
 pub mod FormLemmas
 pub mod GrammarLemmas
 pub mod PairingLemmas
+pub mod LimitLemmas

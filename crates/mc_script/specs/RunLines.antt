@@ -1,5 +1,6 @@
 -- The line grammar of `run` by what stands in it: the options' words, and FILE or FILE SCRIPT behind them.
-use Rattle.std.specs.Prelude.{◌≡◌, ◌≤◌, ◌<◌, ℕ, ◌+◌, List, [], ◌∷◌, ◌++◌, length, Some, IfSome, codes}
+use Rattle.std.specs.Prelude.{◌≡◌, ◌≤◌, ◌<◌, ◌≤ℤ◌, pos, ℕ, ◌+◌, List, [], ◌∷◌, ◌++◌, length, Some, IfSome, codes}
+use Rattle.mc_packet.specs.declared.cache.Limits.{Limits}
 use Rattle.mc_value.specs.Numbers.{number_of}
 use Rattle.mc_script.specs.declared.options.RunLine.{RunLine}
 use Rattle.mc_script.specs.declared.options.Setting.{Setting}
@@ -31,3 +32,9 @@ pub record IsRunLine (words : List (List ℕ)) (line : RunLine) : Type 0 where
 pub record IsWithin (count : ℕ) (line : RunLine) : Type 0 where
   pub file : line.file < count
   pub script : IfSome line.script (λ n. n < count)
+
+-- limits within which a cache works
+pub record AreLimits (limits : Limits) : Type 0 where
+  pub forward : (1 ≤ limits.forward) × (limits.forward ≤ 1073741824)
+  pub back : limits.back ≤ 1073741824
+  pub readahead : (pos 0 ≤ℤ limits.readahead) × (limits.readahead ≤ℤ pos 3600000000000)

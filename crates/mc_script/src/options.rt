@@ -1,6 +1,6 @@
 ghost use Rattle.std.specs.Prelude.{◌≡◌, ◌+◌, ◌≤◌, IfSome, Some, string_bytes, map, length};
 ghost use Rattle.mc_script.specs.Options.{between, limits_of, names_at, nanoseconds, nothing_chosen, number_behind, options_at, run_line, set_in, setting_of};
-ghost use Rattle.mc_script.specs.RunLines.{IsRunLine, IsWithin};
+ghost use Rattle.mc_script.specs.RunLines.{AreLimits, IsRunLine, IsWithin};
 ghost use Rattle.mc_script.specs.Settings.{settings};
 
 use crate::words::is_file_name;
@@ -157,6 +157,7 @@ pub fn parse_run_line(words: &[String]) -> Option<RunLine>
     // They are no other.
     ensures only { (line : RunLine) → IsRunLine (map string_bytes words.now) line → result ≡ Some line }
     ensures within { IfSome result (IsWithin (length words.now)) }
+    ensures limits { IfSome result (λ line. AreLimits line.limits) }
 {
     read_line(words)
 }

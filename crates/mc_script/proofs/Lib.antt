@@ -7,3 +7,4 @@ pub mod FormLemmas
 pub mod GrammarLemmas
 pub mod PairingLemmas
 pub mod LimitLemmas
+pub mod PlaysLemmas

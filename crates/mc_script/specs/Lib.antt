@@ -12,3 +12,5 @@ pub mod Reading
 pub mod Grammar
 pub mod RunLines
 pub mod Pairing
+pub mod Plays
+pub mod PlaysWorked

@@ -10,6 +10,7 @@ mod cache_text;
 mod exit;
 mod lines;
 mod options;
+mod plays;
 mod script;
 #[cfg(test)]
 mod script_tests;
@@ -22,6 +23,7 @@ mod words;
 pub use acts::{Act, Numbers, Script, ScriptError, ScriptWhy};
 pub use exit::{Exit, RunReport, ShelfCause};
 pub use options::{RunLine, parse_run_line};
+pub use plays::{worked_scripts, wrong_plays};
 pub use script::parse_script;
 pub use transcript::demux_text;
 pub use words::read_words;

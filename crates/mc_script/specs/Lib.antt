@@ -2,4 +2,15 @@ pub mod Text
 pub mod CacheText
 pub mod Transcript
 pub mod Words
+pub mod Options
+pub mod Settings
 pub mod Exits
+pub mod Forms
+pub mod Lines
+pub mod Script
+pub mod Reading
+pub mod Grammar
+pub mod RunLines
+pub mod Pairing
+pub mod Plays
+pub mod PlaysWorked

@@ -97,7 +97,7 @@ fn seeks_and_switches(rt: HostRuntime) -> Result<(), Fail> {
 }
 
 #[test]
-fn drops_and_refusals(rt: HostRuntime) -> Result<(), Fail> {
+fn drops(rt: HostRuntime) -> Result<(), Fail> {
     let alloc = rt.alloc();
     for (track, to, cause, want) in [
         (
@@ -127,6 +127,12 @@ fn drops_and_refusals(rt: HostRuntime) -> Result<(), Fail> {
     ] {
         assert_eq!(rt; told(alloc, dropped(track, to, cause))?.as_str(), want);
     }
+    Ok(())
+}
+
+#[test]
+fn refusals_and_joins(rt: HostRuntime) -> Result<(), Fail> {
+    let alloc = rt.alloc();
     for (why, want) in [
         (Why::NoTrack, "refused no-track\n"),
         (Why::UnknownTrack(9), "refused unknown-track 9\n"),

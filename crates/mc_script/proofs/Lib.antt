@@ -1,0 +1,10 @@
+pub mod SecondsLemmas
+pub mod ReturnLemmas
+pub mod ReadingLemmas
+pub mod TextLemmas
+pub mod RunLineLemmas
+pub mod FormLemmas
+pub mod GrammarLemmas
+pub mod PairingLemmas
+pub mod LimitLemmas
+pub mod PlaysLemmas

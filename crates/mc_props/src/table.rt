@@ -7,7 +7,7 @@ ghost use Rattle.mc_props.specs.Readings.{Answers, given_in, got, mask_at, mask_
 ghost use Rattle.mc_props.specs.Settings.{set_to};
 ghost use Rattle.mc_props.specs.declared.facts.Facts.{Facts};
 
-use crate::entries::{PropEntries, place_of};
+use crate::entries::{PropEntries, PropEntry, place_of};
 use crate::facts::Facts;
 use crate::fields::share_field;
 use crate::meanings::Meaning;
@@ -83,10 +83,10 @@ impl<F: Reads<M>, M: Meaning> PropTable<F, M> {
     pub fn set(&self, name: &str, facts: &Facts, value: &Value) -> Result<Write, PropError>
         ensures { Answers result (set_to M.value self.now name.now facts.now value.now) }
     {
-        let Some(place) = place_of(self.entries.as_slice(), name) else {
+        let Some(place) = place_of(self.entries(), name) else {
             return Err(PropError::NotFound);
         };
-        let Some(entry) = self.entries.get(place) else {
+        let Some(entry) = self.entries().get(place) else {
             return Err(PropError::NotFound);
         };
         if !entry.writable {
@@ -104,7 +104,7 @@ impl<F: Reads<M>, M: Meaning> PropTable<F, M> {
         ensures place { result ≡ place_of (property_part name.now) self.now }
         ensures known { IfSome result (λ k. k < length self.now) }
     {
-        match place_of(self.entries.as_slice(), property_part(name)) {
+        match place_of(self.entries(), property_part(name)) {
             Some(place) => Some(place as u32),
             None => None,
         }
@@ -118,10 +118,7 @@ impl<F: Reads<M>, M: Meaning> PropTable<F, M> {
         ensures value { result ≡ share_field (mask_at self.now (Option.Some entry)) mask }
         ensures spared { result ≡ false → (f g : Facts) → AgreeOutside mask f g → (name : List ℕ) → (format : Format) → present_of M.value (Option.Some entry) name format f ≡ present_of M.value (Option.Some entry) name format g }
     {
-        match self.entries.get(entry as usize) {
-            Some(found) => share_field(found.mask, mask),
-            None => false,
-        }
+        share_field(self.mask_at(entry), mask)
     }
 
     /// What an observer of a name has: the format, and the value in it; or no format and no value
@@ -147,16 +144,30 @@ impl<F: Reads<M>, M: Meaning> PropTable<F, M> {
         }
     }
 
-    /// The properties' stated values depend on the fields of their masks alone.
-    pub fn sees_masks_alone(&self)
-        ensures { AreEntries M.value self.now }
+    /// The entries, each at its place. The properties' stated values depend on the fields of their
+    /// masks alone.
+    pub fn entries(&self) -> &[PropEntry]
+        ensures value { result.now ≡ self.now }
+        ensures fit { AreEntries M.value self.now }
     {
-        let _entries = &self.entries;
+        self.entries.as_slice()
+    }
+
+    fn mask_at(&self, entry: u32) -> u32
+        requires { entry < length self.now }
+        ensures value { result ≡ mask_at self.now (Option.Some entry) }
+        ensures fit { AreEntries M.value self.now }
+    {
+        match self.entries.get(entry as usize) {
+            Some(found) => found.mask,
+            None => 0,
+        }
     }
 
     fn at(&self, place: u32, facts: &Facts) -> Result<Reading, NoMemory>
         requires { place < length self.now }
-        ensures { IfOk result (λ r. r ≡ M.value place facts.now) }
+        ensures value { IfOk result (λ r. r ≡ M.value place facts.now) }
+        ensures fit { AreEntries M.value self.now }
     {
         self.reader.read(place, facts)
     }
@@ -164,7 +175,8 @@ impl<F: Reads<M>, M: Meaning> PropTable<F, M> {
     /// What is read at a place, cut by a name's path.
     fn read_at(&self, place: u32, name: &str, facts: &Facts) -> Result<Option<Value>, NoMemory>
         requires { place < length self.now }
-        ensures { IfOk result (λ v. v ≡ read_at M.value place name.now facts.now) }
+        ensures value { IfOk result (λ v. v ≡ read_at M.value place name.now facts.now) }
+        ensures fit { AreEntries M.value self.now }
     {
         match self.at(place, facts)? {
             Reading::Is(value) => path(self.alloc, &value, path_part(name)),

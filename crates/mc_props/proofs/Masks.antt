@@ -5,7 +5,7 @@ use Rattle.std.specs.List.{slice_get}
 use Rattle.mc_value.specs.declared.value.Format.{Format}
 use Rattle.mc_props.specs.Entries.{Masked, path_part}
 use Rattle.mc_props.specs.Fields.{Agree, AgreeOn, AgreeOutside, both_have, has_field, share_field}
-use Rattle.mc_props.specs.Readings.{cut, mask_at, mask_of, present_of, shown_in}
+use Rattle.mc_props.specs.Readings.{cut, given_in, mask_at, mask_of, present_of, shown}
 use Rattle.mc_props.specs.declared.facts.Facts.{Facts}
 use Rattle.mc_props.specs.declared.entries.PropEntry.{PropEntry}
 use Rattle.mc_props.specs.declared.reading.Reading.{Reading}
@@ -29,7 +29,7 @@ pub same_present : (stated : ℕ → Facts → Reading) (entries : List PropEntr
     → (name : List ℕ) (to : Format) (f g : Facts) → Agree (mask_at entries entry) f g → present_of stated entry name to f ≡ present_of stated entry name to g
 same_present stated entries masked None known name to f g agree = refl
 same_present stated entries masked (Some k) known name to f g agree =
-    ap (λ (r : Reading). shown_in to (cut (path_part name) r)) (same_reading stated entries masked k known f g agree)
+    ap (λ (r : Reading). shown to (given_in to (cut (path_part name) r))) (same_reading stated entries masked k known f g agree)
 
 pub nothing_present : (stated : ℕ → Facts → Reading) (entry : Option ℕ) → entry ≡ None
     → (name : List ℕ) (to : Format) (f g : Facts) → present_of stated entry name to f ≡ present_of stated entry name to g

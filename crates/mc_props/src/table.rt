@@ -1,9 +1,9 @@
 ghost use Rattle.std.specs.Prelude.{◌≡◌, ◌<◌, ◌^◌, ℕ, IfOk, IfSome, List, Option, false, length};
 ghost use Rattle.std.specs.Option.{option_copied};
 ghost use Rattle.mc_value.specs.declared.value.Format.{Format};
-ghost use Rattle.mc_props.specs.Entries.{AreEntries, Masked, place_of, property_part};
+ghost use Rattle.mc_props.specs.Entries.{AreEntries, place_of, property_part};
 ghost use Rattle.mc_props.specs.Fields.{Agree, AgreeOutside, share_field};
-ghost use Rattle.mc_props.specs.Readings.{Answers, given_in, got, mask_at, mask_of, present_of, read_at, shown_in};
+ghost use Rattle.mc_props.specs.Readings.{Answers, got, got_at, mask_at, present_of, read_at};
 ghost use Rattle.mc_props.specs.Settings.{set_to};
 ghost use Rattle.mc_props.specs.declared.facts.Facts.{Facts};
 
@@ -16,7 +16,7 @@ use crate::reading::Reading;
 use crate::reads::Reads;
 use crate::refusal::PropError;
 use crate::settings::{Write, written};
-use mc_value::{Format, NoMemory, Value, ValueError, convert, path};
+use mc_value::{Format, NoMemory, Value, convert, path};
 use std::alloc::{AllocError, Global};
 use std::marker::{Model, PhantomData};
 
@@ -67,12 +67,9 @@ impl<F: Reads<M>, M: Meaning> PropTable<F, M> {
     pub fn get(&self, name: &str, facts: &Facts, format: Format) -> Result<Value, PropError>
         ensures { Answers result (got M.value self.now name.now facts.now format) }
     {
-        let Some(place) = self.find(name) else {
-            return Err(PropError::NotFound);
-        };
-        match self.read_at(place, name, facts)? {
-            Some(value) => Ok(convert(self.alloc, &value, format)?),
-            None => Err(PropError::Unavailable),
+        match self.find(name) {
+            Some(place) => self.get_at(place, name, facts, format),
+            None => Err(PropError::NotFound),
         }
     }
 
@@ -138,9 +135,10 @@ impl<F: Reads<M>, M: Meaning> PropTable<F, M> {
         let Some(place) = entry else {
             return Ok((Format::None, Value::None));
         };
-        match self.read_at(place, name, facts)? {
-            Some(value) => shown_in(self.alloc, format, &value),
-            None => Ok((Format::None, Value::None)),
+        match self.get_at(place, name, facts, format) {
+            Ok(value) => Ok((format, value)),
+            Err(PropError::NoMemory) => Err(AllocError),
+            Err(_) => Ok((Format::None, Value::None)),
         }
     }
 
@@ -166,8 +164,7 @@ impl<F: Reads<M>, M: Meaning> PropTable<F, M> {
 
     fn at(&self, place: u32, facts: &Facts) -> Result<Reading, NoMemory>
         requires { place < length self.now }
-        ensures value { IfOk result (λ r. r ≡ M.value place facts.now) }
-        ensures fit { AreEntries M.value self.now }
+        ensures { IfOk result (λ r. r ≡ M.value place facts.now) }
     {
         self.reader.read(place, facts)
     }
@@ -175,23 +172,29 @@ impl<F: Reads<M>, M: Meaning> PropTable<F, M> {
     /// What is read at a place, cut by a name's path.
     fn read_at(&self, place: u32, name: &str, facts: &Facts) -> Result<Option<Value>, NoMemory>
         requires { place < length self.now }
-        ensures value { IfOk result (λ v. v ≡ read_at M.value place name.now facts.now) }
-        ensures fit { AreEntries M.value self.now }
+        ensures { IfOk result (λ v. v ≡ read_at M.value place name.now facts.now) }
     {
         match self.at(place, facts)? {
             Reading::Is(value) => path(self.alloc, &value, path_part(name)),
             Reading::Unavailable => Ok(None),
         }
     }
-}
 
-/// A value in a format, or no format and no value where it has no form there.
-fn shown_in(alloc: Global, format: Format, value: &Value) -> Result<(Format, Value), NoMemory>
-    ensures { IfOk result (λ p. p ≡ shown_in format (Option.Some value.now)) }
-{
-    match convert(alloc, value, format) {
-        Ok(value) => Ok((format, value)),
-        Err(ValueError::NoMemory) => Err(AllocError),
-        Err(_) => Ok((Format::None, Value::None)),
+    fn get_at(
+        &self,
+        place: u32,
+        name: &str,
+        facts: &Facts,
+        format: Format,
+    ) -> Result<Value, PropError>
+        requires { place < length self.now }
+        ensures value { Answers result (got_at M.value (Option.Some place) name.now facts.now format) }
+        ensures fit { AreEntries M.value self.now }
+    {
+        let _entries = &self.entries;
+        match self.read_at(place, name, facts)? {
+            Some(value) => Ok(convert(self.alloc, &value, format)?),
+            None => Err(PropError::Unavailable),
+        }
     }
 }

@@ -18,6 +18,6 @@ returns c =
     let octets : List Pair = octets_of c.args.view.now in
     let name : List ℕ = codes "seekable-ranges" in
     let put : c.put_octets.new.pairs ≡ (name, value.Array c.in_ok-ranges.ranges) ∷ (ends ++ octets) =
-        all c.new-pairs.result c.put.new.pairs c.put_ends.new.pairs c.put_octets.new.pairs ends octets (name, value.Array c.in_ok-ranges.ranges)
-            c.new-pairs.ensures c.in_ok-put.ensures c.in_ok-put_ends.ensures c.in_ok-put_octets.ensures in
+    all c.new-pairs.result c.put.new.pairs c.put_ends.new.pairs c.put_octets.new.pairs ends octets (name, value.Array c.in_ok-ranges.ranges)
+    c.new-pairs.ensures c.in_ok-put.ensures c.in_ok-put_ends.ensures c.in_ok-put_octets.ensures in
     ap value.Map (put ∙ ap (λ (rs : List Value). (name, value.Array rs) ∷ (ends ++ octets)) (c.in_ok-ranges.ensures ∙ ap range_maps c.as_slice.ensures))

@@ -16,7 +16,7 @@ returns c =
     let bof : Pair = (codes "bof-cached", value.Flag c.args.view.now.bof) in
     let eof : Pair = (codes "eof-cached", value.Flag c.has_ending.result) in
     let is : c.args.pairs.now ++ bof ∷ eof ∷ [] ≡ c.args.pairs.now ++ bof ∷ (codes "eof-cached", value.Flag (is_some c.args.view.now.ending)) ∷ [] =
-        ap (λ b. c.args.pairs.now ++ bof ∷ (codes "eof-cached", value.Flag b) ∷ []) c.has_ending.ensures in
+    ap (λ b. c.args.pairs.now ++ bof ∷ (codes "eof-cached", value.Flag b) ∷ []) c.has_ending.ensures in
     on_ok_weaker c.put_flag-2.result
-        (λ h. two c.args.pairs.now c.put_flag.new.pairs c.put_flag-2.new.pairs bof eof c.in_ok-put_flag.ensures h ∙ is)
-        c.put_flag-2.ensures
+    (λ h. two c.args.pairs.now c.put_flag.new.pairs c.put_flag-2.new.pairs bof eof c.in_ok-put_flag.ensures h ∙ is)
+    c.put_flag-2.ensures

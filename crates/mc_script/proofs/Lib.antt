@@ -1,4 +1,3 @@
-pub mod SecondsLemmas
 pub mod ReturnLemmas
 pub mod ReadingLemmas
 pub mod TextLemmas

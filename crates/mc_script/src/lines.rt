@@ -116,14 +116,10 @@ fn first_word(word: &str) -> Option<Verb>
     }
 }
 
-#[tactic(auto, using(crate::proofs::SecondsLemmas::ok_or_some, crate::proofs::SecondsLemmas::ok_or_none))]
 pub fn seconds(word: &str) -> Option<i64>
     ensures { result ≡ seconds_of word.now }
 {
-    match parse_seconds(word) {
-        Ok(time) => Some(time),
-        Err(_) => None,
-    }
+    parse_seconds(word).ok()
 }
 
 fn count(word: &str) -> Option<u32>

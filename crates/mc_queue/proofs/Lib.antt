@@ -6,3 +6,4 @@ pub mod Uniting
 pub mod Differing
 pub mod Filmed
 pub mod Halving
+pub mod Rests

@@ -5,6 +5,7 @@
 #![tactic(auto)]
 
 mod differences;
+mod looking;
 mod lookups;
 mod merging;
 mod parts;

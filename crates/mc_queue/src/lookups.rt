@@ -18,7 +18,7 @@ pub(crate) fn first_at(packets: &VecDeque<Packet>, head: Pos) -> Option<&Packet>
     get_at(packets, packets.partition_point(|p| is_before(p.pos, head)))
 }
 
-fn get_at(packets: &VecDeque<Packet>, at: usize) -> Option<&Packet>
+pub(crate) fn get_at(packets: &VecDeque<Packet>, at: usize) -> Option<&Packet>
     ensures { option_copied result ≡ slice_get packets.now.items at }
 {
     packets.get(at)

@@ -7,3 +7,4 @@ pub mod Differing
 pub mod Filmed
 pub mod Halving
 pub mod Rests
+pub mod Cutting

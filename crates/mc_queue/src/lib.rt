@@ -16,4 +16,5 @@ mod tests;
 
 pub use differences::Difference;
 pub use mc_packet::NoMemory;
+pub use place::{earlier, is_before, is_upto, later, rank_of};
 pub use queue::{Queue, UnionError};

@@ -6,7 +6,7 @@ ghost use Rattle.mc_queue.specs.declared.queue.UnionError.TheVariants.{Mismatch}
 ghost use Rattle.mc_queue.specs.Films.{AppendsFilm, KeepsFilm, UnitesFilm};
 ghost use Rattle.mc_queue.specs.Union.{Compared, Meet, UnionGives, Unites, added};
 ghost use Rattle.mc_queue.specs.Places.{before, Rise, is_from, from_place, weights};
-ghost use Rattle.mc_queue.specs.Queue.{Appends, DropsTo, IsNew, IsQueue, with_spare, first_that, last_that, is_sync, is_sync_before, is_sync_from, is_sync_upto};
+ghost use Rattle.mc_queue.specs.Queue.{Appends, DropsTo, IsNew, IsQueue, with_spare, first_of, first_that, last_that, next_cut, is_sync, is_sync_before, is_sync_from, is_sync_upto};
 
 use crate::differences::{Difference, compare};
 use crate::looking::{ahead_after, weight_moved};
@@ -193,6 +193,24 @@ impl Queue {
         ensures { option_copied result ≡ find (is_from (rank head)) self.now.packets }
     {
         lookups::first_at(&self.packets, head)
+    }
+
+    /// The first packet.
+    pub fn first(&self) -> Option<&Packet>
+        ensures value { option_copied result ≡ first_of self.now.packets }
+        ensures queue { IsQueue self.now }
+    {
+        lookups::first(&self.packets)
+    }
+
+    /// The place up to which the queue is dropped next: its next sync point behind its first packet,
+    /// else its end.
+    pub fn next_cut(&self) -> Pos
+        ensures value { result ≡ next_cut self.now }
+        ensures within { (rank self.now.from ≤ rank result) × (rank result ≤ rank self.now.to) }
+        ensures queue { IsQueue self.now }
+    {
+        lookups::place_or(self.to, lookups::next_sync(&self.packets))
     }
 
     /// The place of the last sync point, in file order, with a time of at most `t` nanoseconds.

@@ -1,8 +1,6 @@
 -- Where a queue is cut lies in its interval, behind its first packet.
 use Rattle.std.proofs.Common.{◌≡◌, ℕ, ◌+◌, ◌<◌, ◌≤◌, Bool, List, [], ◌∷◌, drop, arith, refl, inl, inr}
 use Rattle.std.specs.Prelude.{Option, Some, None, IfSome}
-use Rattle.std.specs.List.{find}
-use Rattle.std.specs.Option.{option_map}
 use Rattle.std.proofs.lemmas.Bool.{cases_Bool}
 use Rattle.mc_packet.specs.declared.packet.Packet.{Packet}
 use Rattle.mc_journal.specs.Films.{rank}

@@ -8,3 +8,4 @@ pub mod Filmed
 pub mod Halving
 pub mod Rests
 pub mod Cutting
+pub mod Timing

@@ -13,6 +13,7 @@ mod place;
 mod queue;
 #[cfg(test)]
 mod tests;
+mod times;
 
 pub use differences::Difference;
 pub use mc_packet::NoMemory;

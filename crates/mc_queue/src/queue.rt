@@ -1,8 +1,10 @@
-ghost use Rattle.std.specs.Prelude.{◌≡◌, ℕ, ◌+◌, ◌-◌, ◌<◌, ◌≤◌, ◌^◌, ◌++◌, [], length, IfOk, OnErr, OnOk};
+ghost use Rattle.std.specs.Prelude.{◌≡◌, true, false, None, ℕ, ◌+◌, ◌-◌, ◌<◌, ◌≤◌, ◌^◌, ◌++◌, [], length, IfOk, OnErr, OnOk};
 ghost use Rattle.std.specs.List.{find, list_any};
 ghost use Rattle.std.specs.Option.{option_copied};
 ghost use Rattle.mc_journal.specs.Films.{rank};
 ghost use Rattle.mc_queue.specs.declared.queue.UnionError.TheVariants.{Mismatch};
+ghost use Rattle.mc_packet.specs.declared.choice.Dir.TheVariants.{Back, Forward};
+ghost use Rattle.mc_queue.specs.Times.{IsNearest, is_wanted};
 ghost use Rattle.mc_queue.specs.Films.{AppendsFilm, KeepsFilm, UnitesFilm};
 ghost use Rattle.mc_queue.specs.Union.{Compared, Meet, UnionGives, Unites, added};
 ghost use Rattle.mc_queue.specs.Places.{before, Rise, is_from, from_place, weights};
@@ -14,7 +16,8 @@ use crate::lookups;
 use crate::merging::{count_outside, merge, weight_outside};
 use crate::parts::{add_behind, drop_before, make_room, weight_behind, weight_in, weight_of_all};
 use crate::place::{earlier, is_at, later};
-use mc_packet::{NoMemory, Packet, Packets, Pos, TrackNo};
+use crate::times::nearest;
+use mc_packet::{Dir, NoMemory, Packet, Packets, Pos, TrackNo};
 use std::alloc::Global;
 use std::collections::VecDeque;
 use std::marker::Model;
@@ -211,6 +214,27 @@ impl Queue {
         ensures queue { IsQueue self.now }
     {
         lookups::place_or(self.to, lookups::next_sync(&self.packets))
+    }
+
+    /// The least time of a sync point, in nanoseconds; with `t` the least one above it.
+    pub fn least_sync_time_after(&self, t: Option<i64>) -> Option<i64>
+        ensures { IsNearest Forward (is_wanted Forward false t) self.now.packets result }
+    {
+        nearest(&self.packets, Dir::Forward, false, t)
+    }
+
+    /// The greatest time of a sync point, in nanoseconds; with `t` the greatest one below it.
+    pub fn greatest_sync_time_before(&self, t: Option<i64>) -> Option<i64>
+        ensures { IsNearest Back (is_wanted Back false t) self.now.packets result }
+    {
+        nearest(&self.packets, Dir::Back, false, t)
+    }
+
+    /// The greatest time of a packet, in nanoseconds.
+    pub fn greatest_time(&self) -> Option<i64>
+        ensures { IsNearest Back (is_wanted Back true None) self.now.packets result }
+    {
+        nearest(&self.packets, Dir::Back, true, None)
     }
 
     /// The place of the last sync point, in file order, with a time of at most `t` nanoseconds.

@@ -5,7 +5,7 @@ ghost use Rattle.mc_queue.specs.Places.{weights};
 use crate::{Cut, NoMemory, Range, UnionError};
 use bytes::Bytes;
 use mc_packet::{
-    Choice, Chunk, Dir, Ending, Heads, Level, Mark, Packet, Packets, Pos, Starts,
+    Choice, Chunk, Dir, Ending, Heads, Kind, Level, Mark, Packet, Packets, Pos, Starts,
 };
 use std::test::Fail;
 
@@ -468,5 +468,35 @@ fn has_bounds(rt: HostRuntime) -> Result<(), Fail> {
         let none = ranged(&rt, (10, 40), &[], ending)?;
         assert_eq!(rt; none.bounds(), None);
     }
+    Ok(())
+}
+
+#[test]
+fn selects_other_tracks(rt: HostRuntime) -> Result<(), Fail> {
+    let mut range = ranged(&rt, (10, 40), &FILM, Some(Ending::Clean))?;
+    range.retrack(VIDEO);
+    assert_eq!(rt; range.spans().video, span(10, 40));
+    assert_eq!(rt; range.spans().audio, None);
+    assert_eq!(rt; (range.packets(), range.set()), (3, VIDEO));
+    assert_eq!(rt; range.ending(), Some(Ending::Clean));
+    Ok(())
+}
+
+// A lesser mark becomes the range's.
+#[test]
+fn gets_tracks(rt: HostRuntime) -> Result<(), Fail> {
+    let starts = Starts {
+        video: Some(50),
+        audio: None,
+        sub: None,
+        mark: mark_at(40),
+    };
+    let mut range = Range::new(rt.alloc(), ALL, &starts);
+    range.add_track(Kind::Audio, 2, 50, mark_at(45));
+    assert_eq!(rt; range.mark(), mark_at(40));
+    range.add_track(Kind::Sub, 3, 20, mark_at(15));
+    assert_eq!(rt; range.mark(), mark_at(15));
+    assert_eq!(rt; range.spans().audio, span(50, 50));
+    assert_eq!(rt; range.spans().sub, span(20, 20));
     Ok(())
 }

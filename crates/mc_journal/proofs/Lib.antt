@@ -17,3 +17,4 @@ pub mod Appending
 pub mod Splitting
 pub mod Worked
 pub mod Regular
+pub mod Crowded

@@ -10,3 +10,4 @@ pub mod Allowed
 pub mod Used
 pub mod WorkedFilms
 pub mod Worked
+pub mod Crowded

@@ -7,6 +7,7 @@ ghost use Rattle.mc_packet.specs.declared.walk.Ending.TheVariants.{Clean};
 ghost use Rattle.mc_journal.specs.Films.{IsFilm, IsRegular};
 ghost use Rattle.mc_journal.specs.Legal.{IsLegal};
 ghost use Rattle.mc_journal.specs.WorkedFilms.{one, two, one_packets, one_known, opening, c0};
+ghost use Rattle.mc_journal.specs.Crowded.{many, crowded, newest_dropped};
 ghost use Rattle.mc_journal.specs.Worked.{usual, none_behind, one_ahead, drained, sent, joined, drained_twice, before_the_start, two_ranges, dropped, overfull, switched, failed_read, refused, waited, repeated, start, read, drained_forward, forward_to_last, forward_sent, forward_at, too_early, too_late, skips, ends_early, unjoined};
 
 /// The first worked film is one and is regular, so that its whole reading is legal.
@@ -55,4 +56,11 @@ pub fn wrong_journals()
     ensures skips { IsUsed one usual skips → ⊥ }
     ensures ends { IsUsed one usual ends_early → ⊥ }
     ensures unjoined { IsUsed one usual unjoined → ⊥ }
+{}
+
+/// So is one by whose seeks an eleventh range comes to stand: the one that was used longest ago goes.
+/// One in which the newest goes is not.
+pub fn crowded_journals()
+    ensures used { IsUsed many usual crowded }
+    ensures newest { IsUsed many usual newest_dropped → ⊥ }
 {}

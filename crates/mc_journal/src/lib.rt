@@ -10,6 +10,8 @@ mod journals;
 mod law;
 mod record;
 
-pub use journals::{forward_journals, worked_films, worked_journals, wrong_journals};
+pub use journals::{
+    crowded_journals, forward_journals, worked_films, worked_journals, wrong_journals,
+};
 pub use law::{allowed_journals, queues, serving_ranges};
 pub use record::{Cause, DemuxJournal, DemuxRecord, Removal, Sought, gave};

@@ -5,6 +5,8 @@
 //! ending (`specs/Range`).
 #![tactic(auto)]
 
+mod bounding;
+mod cutting;
 mod growing;
 mod joining;
 mod law;
@@ -14,8 +16,14 @@ mod range;
 mod serving;
 #[cfg(test)]
 mod tests;
+mod tracks;
 
-pub use law::served_films;
+pub use cutting::Cut;
+pub use law::{
+    added_ranges, begun_ranges, cut_ranges, fed_ranges, joined_ranges, retracked_ranges,
+    served_films, shown_ranges, touching_spans,
+};
 pub use mc_packet::NoMemory;
 pub use mc_queue::UnionError;
 pub use range::Range;
+pub use tracks::spans_touch;

@@ -2,9 +2,11 @@ ghost use Rattle.std.specs.Prelude.{◌≡◌, ◌<◌, ◌≤◌, [], ◌∷◌
 ghost use Rattle.mc_packet.specs.Shape.{HasShape, is_near};
 ghost use Rattle.mc_queue.specs.Places.{weights};
 
-use crate::{NoMemory, Range};
+use crate::{Cut, NoMemory, Range, UnionError};
 use bytes::Bytes;
-use mc_packet::{Choice, Chunk, Dir, Ending, Heads, Level, Mark, Packet, Packets, Pos, Starts};
+use mc_packet::{
+    Choice, Chunk, Dir, Ending, Heads, Kind, Level, Mark, Packet, Packets, Pos, Starts,
+};
 use std::test::Fail;
 
 const ALL: Choice = Choice {
@@ -108,7 +110,15 @@ fn put(
     range: &mut Range,
     sync: (u64, u64, u16),
 ) -> Result<Option<u64>, NoMemory> {
-    let (track, block, time) = sync;
+    put_packet(rt, range, sync, true)
+}
+
+fn put_packet(
+    rt: &HostRuntime,
+    range: &mut Range,
+    (track, block, time): (u64, u64, u16),
+    sync: bool,
+) -> Result<Option<u64>, NoMemory> {
     let from = range.mark();
     if track == 0 || track > 9 || block < from.pos || block > 1_000 || range.weight() > 1_000_000 {
         return Ok(None);
@@ -117,8 +127,8 @@ fn put(
         track,
         pos: Pos { block, lane: 0 },
         time: time_of(time),
-        sync: true,
-        key: true,
+        sync,
+        key: sync,
         body: Bytes::new(),
     };
     range.extend(part_to(rt, from, packet)?)
@@ -157,9 +167,12 @@ fn ranged(
     Ok(range)
 }
 
+fn place(block: u64) -> Pos {
+    Pos { block, lane: 0 }
+}
+
 fn at(block: Option<u64>) -> Option<Pos> {
-    let block = block?;
-    Some(Pos { block, lane: 0 })
+    Some(place(block?))
 }
 
 fn heads(video: Option<u64>, audio: Option<u64>, sub: Option<u64>) -> Option<Heads> {
@@ -293,5 +306,197 @@ fn is_fed(rt: HostRuntime) -> Result<(), Fail> {
     assert_eq!(rt; range.mark(), mark_at(70));
     assert_eq!(rt; range.ending(), Some(Ending::Clean));
     assert_eq!(rt; range.set(), ALL);
+    Ok(())
+}
+
+fn join(range: &mut Range, other: &mut Range) -> Option<Result<(), UnionError>> {
+    if !range.touches(other) || range.weight() > 1_000_000 || other.weight() > 1_000_000 {
+        return None;
+    }
+    Some(range.join(other))
+}
+
+// The range over a part of the film.
+fn part(rt: &HostRuntime, from: u64, to: u64) -> Result<Range, NoMemory> {
+    let mut range = ranged(rt, (from, from), &[], None)?;
+    for sync in FILM {
+        if from <= sync.1 && sync.1 < to {
+            put(rt, &mut range, sync)?;
+        }
+    }
+    finish(rt, &mut range, to, None)?;
+    Ok(range)
+}
+
+// The other's ends, and then both together: where they begin and end, and how many packets they have.
+#[test]
+fn joins(rt: HostRuntime) -> Result<(), Fail> {
+    for (from, to, both) in [
+        (0, 12, Some((0, 22, 6))),
+        (22, 40, Some((12, 40, 6))),
+        (14, 20, Some((12, 22, 4))),
+        (12, 22, Some((12, 22, 4))),
+        (0, 40, Some((0, 40, 8))),
+        (5, 16, Some((5, 22, 6))),
+        (0, 11, None),
+        (23, 40, None),
+    ] {
+        let mut range = part(&rt, 12, 22)?;
+        let mut other = part(&rt, from, to)?;
+        let joined = join(&mut range, &mut other);
+        let Some((start, end, packets)) = both else {
+            assert_eq!(rt; joined, None, "with {from} to {to}");
+            continue;
+        };
+        assert_eq!(rt; joined, Some(Ok(())), "with {from} to {to}");
+        assert_eq!(rt;
+            range.spans().audio,
+            span(start, end),
+            "with {from} to {to}"
+        );
+        assert_eq!(rt; range.packets(), packets, "with {from} to {to}");
+        assert_eq!(rt; (range.mark(), other.packets()), (mark_at(end), 0));
+    }
+    Ok(())
+}
+
+fn span(from: u64, to: u64) -> Option<(Pos, Pos)> {
+    Some((place(from), place(to)))
+}
+
+// Two keyframes, at 10 and 20, with other packets behind them.
+fn grouped(rt: &HostRuntime) -> Result<Range, NoMemory> {
+    let mut range = ranged(rt, (10, 10), &[], None)?;
+    for (block, sync) in [
+        (10, true),
+        (12, false),
+        (14, false),
+        (20, true),
+        (22, false),
+    ] {
+        put_packet(rt, &mut range, (1, block, 0), sync)?;
+    }
+    finish(rt, &mut range, 30, None)?;
+    Ok(range)
+}
+
+fn cut(from: u64, to: u64) -> Option<Cut> {
+    Some(Cut {
+        track: 1,
+        from: place(from),
+        to: place(to),
+    })
+}
+
+// To the next keyframe, to the end, to the head, and never past it.
+#[test]
+fn cuts(rt: HostRuntime) -> Result<(), Fail> {
+    for (head, first, second, packets) in [
+        (None, cut(10, 20), cut(20, 30), 0),
+        (Some(25), cut(10, 20), cut(20, 25), 0),
+        (Some(20), cut(10, 20), None, 2),
+        (Some(14), cut(10, 14), None, 3),
+        (Some(13), cut(10, 13), None, 3),
+        (Some(11), cut(10, 11), None, 4),
+        (Some(10), None, None, 5),
+    ] {
+        let mut range = grouped(&rt)?;
+        let heads = Heads {
+            video: at(head),
+            audio: at(Some(10)),
+            sub: at(Some(10)),
+        };
+        let upto = if head.is_some() { Some(&heads) } else { None };
+        let ahead = range.weight_from(&heads);
+        assert_eq!(rt; range.cut(upto), first, "upto {head:?}");
+        assert_eq!(rt; range.cut(upto), second, "upto {head:?}");
+        assert_eq!(rt; range.cut(upto), None, "upto {head:?}");
+        assert_eq!(rt; range.packets(), packets, "upto {head:?}");
+        if head.is_some() {
+            assert_eq!(rt; range.weight_from(&heads), ahead);
+        }
+    }
+    Ok(())
+}
+
+// Of all queues the one whose first packet has the least place.
+#[test]
+fn cuts_the_first(rt: HostRuntime) -> Result<(), Fail> {
+    let mut range = ranged(&rt, (10, 40), &FILM, None)?;
+    for (track, from, to) in [(1, 10, 20), (2, 10, 16), (3, 10, 40), (2, 16, 21)] {
+        let dropped = Cut {
+            track,
+            from: place(from),
+            to: place(to),
+        };
+        assert_eq!(rt; range.cut(None), Some(dropped), "from {from}");
+    }
+    Ok(())
+}
+
+#[test]
+fn weighs_from_its_heads(rt: HostRuntime) -> Result<(), Fail> {
+    let mut range = ranged(&rt, (10, 40), &FILM, None)?;
+    for (video, audio, sub, weight) in [
+        (10, 10, 10, 512),
+        (20, 16, 12, 384),
+        (30, 26, 13, 128),
+        (20, 21, 10, 320),
+        (35, 35, 35, 0),
+    ] {
+        let heads = Heads {
+            video: at(Some(video)),
+            audio: at(Some(audio)),
+            sub: at(Some(sub)),
+        };
+        assert_eq!(rt; range.weight_from(&heads), weight, "from {video}");
+        range.look_from(&heads);
+        assert_eq!(rt; range.weight_from(&heads), weight, "from {video}");
+    }
+    Ok(())
+}
+
+// The last keyframe of the video track is served only with the film's ending: audio may go on.
+#[test]
+fn has_bounds(rt: HostRuntime) -> Result<(), Fail> {
+    for (ending, bounds) in [
+        (None, Some((100, 200))),
+        (Some(Ending::Clean), Some((100, 300))),
+    ] {
+        let range = ranged(&rt, (10, 40), &FILM, ending)?;
+        assert_eq!(rt; range.bounds(), bounds);
+        let none = ranged(&rt, (10, 40), &[], ending)?;
+        assert_eq!(rt; none.bounds(), None);
+    }
+    Ok(())
+}
+
+#[test]
+fn selects_other_tracks(rt: HostRuntime) -> Result<(), Fail> {
+    let mut range = ranged(&rt, (10, 40), &FILM, Some(Ending::Clean))?;
+    range.retrack(VIDEO);
+    assert_eq!(rt; range.spans().video, span(10, 40));
+    assert_eq!(rt; range.spans().audio, None);
+    assert_eq!(rt; (range.packets(), range.set()), (3, VIDEO));
+    assert_eq!(rt; range.ending(), Some(Ending::Clean));
+    Ok(())
+}
+
+// A lesser mark becomes the range's.
+#[test]
+fn gets_tracks(rt: HostRuntime) -> Result<(), Fail> {
+    let starts = Starts {
+        video: Some(50),
+        audio: None,
+        sub: None,
+        mark: mark_at(40),
+    };
+    let mut range = Range::new(rt.alloc(), ALL, &starts);
+    range.add_track(Kind::Audio, 2, 50, mark_at(45));
+    assert_eq!(rt; range.mark(), mark_at(40));
+    range.add_track(Kind::Sub, 3, 20, mark_at(15));
+    assert_eq!(rt; range.mark(), mark_at(15));
+    assert_eq!(rt; range.spans().audio, span(50, 50));
+    assert_eq!(rt; range.spans().sub, span(20, 20));
     Ok(())
 }

@@ -1,0 +1,4 @@
+pub mod Syncing
+pub mod Fronts
+pub mod Marking
+pub mod Noting

@@ -1,0 +1,84 @@
+ghost use Rattle.std.specs.Prelude.{◌≡◌, ◌+◌, ◌<◌, ◌≤◌};
+ghost use Rattle.mc_index.specs.Entries.{track_point, key_point, key_of, noted_by};
+
+use crate::entry::{Entry, Point};
+use crate::index::{Index, SPACING};
+use mc_cursor::{BlockMark, HeadChunk};
+use mc_packet::{Mark, NoMemory, TrackNo};
+
+// The keyframe of a head's block element.
+fn key_point(head: &HeadChunk, block: BlockMark) -> Point
+    ensures { result ≡ key_point head.now block }
+{
+    Point {
+        time: block.time,
+        mark: Mark {
+            pos: block.pos,
+            level: head.to.level,
+        },
+    }
+}
+
+/// The keyframe of a track with which a head ends, if it does.
+pub(crate) fn track_point(track: TrackNo, head: &HeadChunk) -> Option<Point>
+    ensures { result ≡ track_point track head.now head.now.block }
+{
+    match head.block {
+        Some(block) => if block.track == track && block.key {
+            Some(key_point(head, block))
+        } else {
+            None
+        },
+        None => None,
+    }
+}
+
+// The keyframe of a head and its track.
+fn key_of(head: &HeadChunk) -> Option<BlockMark>
+    ensures { result ≡ key_of head.now.block }
+{
+    match head.block {
+        Some(block) => if block.key { Some(block) } else { None },
+        None => None,
+    }
+}
+
+impl Entry {
+    /// Reads on by a head.
+    fn go_on(&mut self, head: &HeadChunk)
+        requires { (self.old.blocks ≤ self.old.mark.pos) × (self.old.mark.pos < head.now.to.pos) }
+        ensures value { (self.new.blocks ≡ self.old.blocks + 1) × (self.new.mark ≡ head.now.to) }
+        ensures tracks { self.new.tracks.items ≡ noted_by head.now (key_of head.now.block) self.old.tracks.items }
+    {
+        if let Some(block) = key_of(head) {
+            self.note(block.track, key_point(head, block));
+        }
+        self.mark = head.to;
+        self.blocks += 1;
+    }
+}
+
+impl Index {
+    ghost use Rattle.std.specs.Prelude.{ℕ};
+    ghost use Rattle.mc_walk.specs.declared.plan.Plan.{Plan};
+    ghost use Rattle.mc_walk.specs.Parts.{chunk_at};
+    ghost use Rattle.mc_cursor.specs.Heads.{head_chunk_of};
+    ghost use Rattle.mc_index.specs.Scans.{IsIndexOf, IsPlan};
+
+    /// Takes note of a head, where it is the one behind all that were noted. An entry is made before
+    /// each 64th of them.
+    pub(crate) fn note(&mut self, head: &HeadChunk) -> Result<(), NoMemory>
+        requires { head.now.ending ≡ None → head.now.from.pos < head.now.to.pos }
+        ensures stands { (plan : Plan) → IsPlan plan → head.now ≡ head_chunk_of (chunk_at plan head.now.from) → IsIndexOf plan self.old → IsIndexOf plan self.new }
+    {
+        if head.ending.is_some() || head.from != self.front.mark {
+            return Ok(());
+        }
+        if self.front.blocks % SPACING == 0 {
+            let entry = self.front.copy(self.alloc)?;
+            self.entries.push(entry)?;
+        }
+        self.front.go_on(head);
+        Ok(())
+    }
+}

@@ -1,6 +1,6 @@
 -- What a film's parts are, and what stands before a mark up to which it was read.
 use Rattle.std.proofs.Common.{◌≡◌, ℕ, zero, suc, ◌+◌, ◌-◌, ◌<◌, ◌≤◌, Bool, true, false, List, [], ◌∷◌, ◌++◌, length, Option, Some, None, refl, sym, ap, subst, ◌∙◌, ◌⊎◌, inl, inr, append_assoc, add-one, arith}
-use Rattle.std.proofs.lemmas.Bool.{cond_both, ne_eqb}
+use Rattle.std.proofs.lemmas.Bool.{cond_both, cases_lt, eqb-true}
 use Rattle.std.specs.Prelude.{⊤, ◌==◌}
 use Rattle.mc_packet.specs.declared.packet.Packet.{Packet}
 use Rattle.mc_packet.specs.declared.walk.Ending.{Ending}
@@ -11,8 +11,7 @@ use Rattle.mc_walk.specs.declared.plan.Step.{Step}
 use Rattle.mc_walk.specs.declared.plan.Step.TheVariants.{End, On}
 use Rattle.mc_walk.specs.Walk.{step_at, steps, walk, Rises, Rest, in_front, film_walk}
 use Rattle.mc_walk.specs.Parts.{mark, opening_mark, Part, part, part_after, part_at, place_of, level_of, joined_after, IsMark}
-use Rattle.mc_walk.specs.Parts.IsMark.{at_end}
-use Rattle.mc_walk.specs.Parts.IsMark as marks
+use Rattle.mc_walk.specs.Parts.IsMark.{at_end, at_opening as opening_is_mark}
 use Rattle.mc_walk.proofs.Rising.{step-rises}
 use Rattle.mc_walk.proofs.Enough.{part-to, EndsOnward}
 use Rattle.mc_walk.proofs.Framing.{Framed, step-framed}
@@ -67,7 +66,7 @@ part-is (suc n) plan place level in_film =
 -- ---- up to a mark
 
 pub front-mark : (plan : Plan) (n : ℕ) (m : Mark) (ps : List Packet) → Front plan n m ps → IsMark plan m
-front-mark plan _ _ _ at_opening = marks.at_opening
+front-mark plan _ _ _ at_opening = opening_is_mark
 front-mark plan _ _ _ (read_on n m ps before goes) = at_end m (front-mark plan n m ps before)
 
 pub front-lies : (plan : Plan) (n : ℕ) (m : Mark) (ps : List Packet) → IsPlan plan → Front plan n m ps → place_of plan m ≤ length plan.octets
@@ -81,7 +80,7 @@ pub part-onward : (plan : Plan) (n : ℕ) (m : Mark) (ps : List Packet) → IsPl
 part-onward plan n m ps is front = part-to (steps plan) plan (place_of plan m) (level_of m) (front-lies plan n m ps is front)
 
 pub mark-under : (plan : Plan) (m : Mark) → m.pos ≤ place_of plan m
-mark-under plan m = cond_both (m.pos == 0) plan.opening m.pos (λ place. m.pos ≤ place) (λ e. omega (arith, e)) (λ e. omega arith)
+mark-under plan m = cond_both (m.pos == 0) plan.opening m.pos (λ place. m.pos ≤ place) (λ e. let z : m.pos ≡ 0 = eqb-true m.pos 0 e in omega arith) (λ e. omega arith)
 
 -- each block element takes an octet
 pub front-count : (plan : Plan) (n : ℕ) (m : Mark) (ps : List Packet) → IsPlan plan → Front plan n m ps → n ≤ m.pos
@@ -89,6 +88,14 @@ front-count plan _ _ _ is at_opening = omega arith
 front-count plan _ _ _ is (read_on n m ps before goes) =
     let on = (part-onward plan n m ps is before).2 goes in
     omega (arith, front-count plan n m ps is before, mark-under plan m, on)
+
+-- no mark stands before the Segment's first child
+pub front-opens : (plan : Plan) (n : ℕ) (m : Mark) (ps : List Packet) → IsPlan plan → Front plan n m ps → 0 < place_of plan m
+front-opens plan _ _ _ is at_opening = is.0
+front-opens plan _ _ _ is (read_on n m ps before goes) =
+    let behind = (part-onward plan n m ps is before).2 goes in
+    let positive : 0 < (part_at plan m).to.pos = omega arith in
+    rw (place-of plan (part_at plan m).to positive) positive
 
 in_front-append : (ps qs : List Packet) (r : Rest) → in_front (ps ++ qs) r ≡ in_front ps (in_front qs r)
 in_front-append ps qs r = ap (λ packets. let x : Rest = (packets, r.1) in x) (append_assoc ps qs r.0)
@@ -158,8 +165,7 @@ pub record IsLater (plan : Plan) (m m' : Mark) (ps ps' : List Packet) : Type 0 w
 pub front-later : (plan : Plan) (n n' : ℕ) (m m' : Mark) (ps ps' : List Packet) → IsPlan plan → n < n' → Front plan n m ps → Front plan n' m' ps' → IsLater plan m m' ps ps'
 front-later plan n _ m _ ps _ is h front at_opening = absurd (omega arith)
 front-later plan n _ m _ ps _ is h front (read_on k mk pk before goes) =
-    let near : (n < k) ⊎ (n ≡ k) = omega arith in
-    elim near [
+    elim (cases_lt n k) [
       | inl less ↦
         let earlier = front-later plan n k m mk ps pk is less front before in
         let on = (part-onward plan k mk pk is before).2 goes in
@@ -169,7 +175,8 @@ front-later plan n _ m _ ps _ is h front (read_on k mk pk before goes) =
           rest = earlier.rest ++ (part_at plan mk).packets;
           whole = ap (λ qs. qs ++ (part_at plan mk).packets) earlier.whole ∙ append_assoc ps earlier.rest (part_at plan mk).packets;
         }
-      | inr e ↦
+      | inr le ↦
+        let e : n ≡ k = omega arith in
         let same = front-same plan n k m mk ps pk e front before in
         let at : (part_at plan mk).to ≡ (part_at plan m).to = ap (λ (j : Mark). (part_at plan j).to) same.mark in
         record {

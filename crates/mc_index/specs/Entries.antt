@@ -1,6 +1,5 @@
 -- What an entry says of its tracks.
 use Rattle.std.specs.Prelude.{ℕ, ◌==◌, Bool, true, ◌&&◌, if◌then◌else◌, List, map, Option, Some, None, ℤ, int_le}
-use Rattle.std.specs.List.{find}
 use Rattle.mc_walk.specs.declared.front.BlockMark.{BlockMark}
 use Rattle.mc_walk.specs.Parts.{mark}
 use Rattle.mc_cursor.specs.declared.head.HeadChunk.{HeadChunk}
@@ -13,15 +12,7 @@ unread track = record { track = track; point = None }
 
 -- a track's last keyframe, once one of some track was read
 abbrev pub noted : ℕ → Point → LastSync → LastSync
-noted track point l = if l.track == track then record { track = l.track; point = Some point } else l
-
-abbrev pub point_in : Option LastSync → Option Point
-point_in None = None
-point_in (Some l) = l.point
-
--- the last keyframe that is noted of a track
-abbrev pub point_for : ℕ → List LastSync → Option Point
-point_for track tracks = point_in (find (λ (l : LastSync). l.track == track) tracks)
+noted track point l = if track == l.track then record { track = l.track; point = Some point } else l
 
 -- no keyframe, or one at a time or before it
 abbrev pub is_upto : ℤ → Option Point → Bool

@@ -1,5 +1,5 @@
 -- What a look-up finds on its way.
-use Rattle.std.specs.Prelude.{◌≡◌, ℕ, ◌<◌, nat_le, Bool, true, false, if◌then◌else◌, List, [], ◌∷◌, Option, Some, None, is_some, ℤ, int_le, ⊤}
+use Rattle.std.specs.Prelude.{◌≡◌, ℕ, ◌^◌, ◌<◌, ◌==◌, nat_le, Bool, true, false, if◌then◌else◌, List, [], ◌∷◌, find, Option, Some, None, is_some, ℤ, int_le, ⊤}
 use Rattle.mc_packet.specs.declared.choice.Choice.{Choice}
 use Rattle.mc_packet.specs.declared.choice.Dir.{Dir}
 use Rattle.mc_packet.specs.declared.choice.Dir.TheVariants.{Back, Forward}
@@ -11,9 +11,11 @@ use Rattle.mc_walk.specs.declared.plan.Plan.{Plan}
 use Rattle.mc_walk.specs.Parts.{mark, opening_mark, Part, part_at}
 use Rattle.mc_cursor.specs.declared.head.HeadChunk.{HeadChunk}
 use Rattle.mc_journal.specs.Choices.{or_else, OnTrack}
-use Rattle.mc_journal.specs.Films.{TimesRise, syncs}
+use Rattle.mc_journal.specs.Films.{TimesRise, syncs, audio_dir}
 use Rattle.mc_journal.specs.Told.{Told}
 use Rattle.mc_index.specs.declared.entry.Point.{Point}
+use Rattle.mc_index.specs.declared.entry.LastSync.{LastSync}
+use Rattle.mc_index.specs.declared.entry.Entry.{Entry}
 use Rattle.mc_index.specs.declared.search.Around.{Around}
 use Rattle.mc_index.specs.declared.search.Since.{Since}
 use Rattle.mc_index.specs.declared.search.Found.{Found}
@@ -31,6 +33,14 @@ pub record IsSince (plan : Plan) (track : ℕ) (t : ℤ) (s : Since) : Type 0 wh
   pub before : s.before ≡ last_point plan packets track
   pub upto : is_upto t s.before ≡ true
 
+-- what an entry tells of a track that it lists, unless that has a later sync point
+abbrev pub since_of : ℤ → Mark → Option LastSync → Option Since
+since_of t m None = None
+since_of t m (Some l) = if is_upto t l.point then Some (record { mark = m; before = l.point }) else None
+
+abbrev pub since_in : ℕ → ℤ → Entry → Option Since
+since_in track t e = since_of t e.mark (find (λ (l : LastSync). l.track == track) e.tracks.items)
+
 -- ---- reading on by a head
 
 abbrev pub found_point : ℤ → Option Point → Found
@@ -45,10 +55,10 @@ unless_ended (Some ending) f = found.End
 abbrev pub found_by : ℕ → ℤ → HeadChunk → Found
 found_by track t k = unless_ended k.ending (found_point t (track_point track k k.block))
 
--- the look-up goes on behind it
+-- where the look-up goes on, it does so behind its place
 abbrev pub GoesOn : Found → Mark → Mark → Type 0
-GoesOn found.Other from to = from.pos < to.pos
-GoesOn (found.Upto p) from to = from.pos < to.pos
+GoesOn found.Other from to = (from.pos < to.pos) × (to.pos < 2 ^ 64)
+GoesOn (found.Upto p) from to = (from.pos < to.pos) × (to.pos < 2 ^ 64)
 GoesOn (found.Past p) from to = ⊤
 GoesOn found.End from to = ⊤
 
@@ -125,3 +135,15 @@ seek_starts set video audio =
 
 abbrev pub switch_starts : Choice → Option Point → Option Point → Option Point → Starts
 switch_starts added video audio lead = starts_by (track_mark added.video video) (track_mark added.audio audio) (track_mark added.sub lead)
+
+-- ---- by the sync points next to the times
+
+-- the time by which audio beside video looks for its own
+abbrev pub reference : Dir → ℤ → Around → ℤ
+reference dir t lead = point_time t (chosen dir t lead)
+
+abbrev pub seek_of : Choice → Dir → ℤ → Around → Around → Starts
+seek_of set dir t lead beside = seek_starts set (chosen dir t lead) (chosen (audio_dir set.video dir) (reference dir t lead) beside)
+
+abbrev pub switch_of : Choice → ℤ → Around → Around → Around → Starts
+switch_of added at video audio lead = switch_starts added (chosen Back at video) (chosen Back at audio) lead.before

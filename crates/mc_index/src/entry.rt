@@ -51,7 +51,7 @@ fn note_in(tracks: &mut [LastSync], track: TrackNo, point: Point)
     ensures { tracks.new ≡ map (noted track point) tracks.old }
 {
     for last in tracks.iter_mut() {
-        if last.track == track {
+        if track == last.track {
             last.point = Some(point);
         }
     }

@@ -4,7 +4,7 @@ ghost use Rattle.mc_cursor.specs.Causes.{ReadCause, Keeps};
 
 use crate::index::Index;
 use crate::search::Around;
-use crate::starts::{audio_dir, chosen, needed_lead, point_time, seek_starts, switch_starts};
+use crate::starts::{needed_lead, reference, seek_starts, switch_starts};
 use mc_cursor::{Cursor, CursorError};
 use mc_outside::Shelf;
 use mc_packet::{Choice, Dir, Starts, TrackNo};
@@ -71,11 +71,10 @@ impl Index {
         ensures kept { Keeps (S.files shelf.old) (S.files shelf.new) (S.opened shelf.old) (S.opened shelf.new) (S.reach shelf.old) (S.reach shelf.new) }
         ensures reach { OfFilm (content (S.files shelf.old) (S.opened shelf.old) (file_of cursor.old)) cursor.old self.old (λ octets. SeekReads (plan_for octets cursor.old) set dir t (S.reach shelf.old) (S.reach shelf.new)) }
     {
-        let video = chosen(self.near(cursor, shelf, set.video, t)?, dir, t);
-        let time = point_time(t, video);
+        let lead = self.near(cursor, shelf, set.video, t)?;
+        let time = reference(lead, dir, t);
         let beside = self.near(cursor, shelf, set.audio, time)?;
-        let audio = chosen(beside, audio_dir(set.video, dir), time);
-        Ok(seek_starts(set, video, audio))
+        Ok(seek_starts(set, dir, t, lead, beside))
     }
 
     /// Where to read on for tracks that are added at the time `at`, in nanoseconds: as `find`
@@ -99,9 +98,9 @@ impl Index {
         ensures kept { Keeps (S.files shelf.old) (S.files shelf.new) (S.opened shelf.old) (S.opened shelf.new) (S.reach shelf.old) (S.reach shelf.new) }
         ensures reach { OfFilm (content (S.files shelf.old) (S.opened shelf.old) (file_of cursor.old)) cursor.old self.old (λ octets. SwitchReads (plan_for octets cursor.old) added lead at (S.reach shelf.old) (S.reach shelf.new)) }
     {
-        let video = chosen(self.near(cursor, shelf, added.video, at)?, Dir::Back, at);
-        let audio = chosen(self.near(cursor, shelf, added.audio, at)?, Dir::Back, at);
-        let beside = self.near(cursor, shelf, needed_lead(added.sub, lead), at)?;
-        Ok(switch_starts(added, video, audio, beside.before))
+        let video = self.near(cursor, shelf, added.video, at)?;
+        let audio = self.near(cursor, shelf, added.audio, at)?;
+        let leading = self.near(cursor, shelf, needed_lead(added.sub, lead), at)?;
+        Ok(switch_starts(added, at, video, audio, leading))
     }
 }

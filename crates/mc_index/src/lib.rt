@@ -15,6 +15,8 @@ mod index;
 mod scan;
 mod search;
 mod starts;
+#[cfg(test)]
+mod tests;
 
 pub use index::Index;
 pub use mc_packet::NoMemory;

@@ -1,10 +1,13 @@
-ghost use Rattle.std.specs.Prelude.{◌≡◌, ◌+◌, ◌<◌, ◌≤◌};
+ghost use Rattle.std.specs.Prelude.{◌≡◌, ◌+◌, ◌/◌, ◌<◌, ◌≤◌, All, length, OnOk, OnErr};
+ghost use Rattle.mc_walk.specs.declared.plan.Plan.{Plan};
+ghost use Rattle.mc_index.specs.Scans.{IsEntry};
 ghost use Rattle.mc_index.specs.Entries.{track_point, key_point, key_of, noted_by};
 
 use crate::entry::{Entry, Point};
 use crate::index::{Index, SPACING};
 use mc_cursor::{BlockMark, HeadChunk};
 use mc_packet::{Mark, NoMemory, TrackNo};
+use std::alloc::Global;
 
 // The keyframe of a head's block element.
 fn key_point(head: &HeadChunk, block: BlockMark) -> Point
@@ -50,17 +53,30 @@ impl Entry {
         ensures value { (self.new.blocks ≡ self.old.blocks + 1) × (self.new.mark ≡ head.now.to) }
         ensures tracks { self.new.tracks.items ≡ noted_by head.now (key_of head.now.block) self.old.tracks.items }
     {
+        prove!(self.blocks < head.to.pos);
+        self.blocks += 1;
+        self.mark = head.to;
         if let Some(block) = key_of(head) {
             self.note(block.track, key_point(head, block));
         }
-        self.mark = head.to;
-        self.blocks += 1;
     }
 }
 
+// Keeps an entry of the place to which the film was scanned, before each 64th block element.
+fn keep_entry(alloc: Global, entries: &mut Vec<Entry>, front: &Entry) -> Result<(), NoMemory>
+    requires { length entries.old.items ≡ (front.now.blocks + 63) / 64 }
+    ensures spaced { OnOk result (length entries.new.items ≡ (front.now.blocks + 64) / 64) }
+    ensures err { OnErr result (entries.new.items ≡ entries.old.items) }
+    ensures stands { (plan : Plan) → IsEntry plan front.now → All (IsEntry plan) entries.old.items → All (IsEntry plan) entries.new.items }
+{
+    if front.blocks % SPACING == 0 {
+        let entry = front.copy(alloc)?;
+        entries.push(entry)?;
+    }
+    Ok(())
+}
+
 impl Index {
-    ghost use Rattle.std.specs.Prelude.{ℕ};
-    ghost use Rattle.mc_walk.specs.declared.plan.Plan.{Plan};
     ghost use Rattle.mc_walk.specs.Parts.{chunk_at};
     ghost use Rattle.mc_cursor.specs.Heads.{head_chunk_of};
     ghost use Rattle.mc_index.specs.Scans.{IsIndexOf, IsPlan};
@@ -74,10 +90,7 @@ impl Index {
         if head.ending.is_some() || head.from != self.front.mark {
             return Ok(());
         }
-        if self.front.blocks % SPACING == 0 {
-            let entry = self.front.copy(self.alloc)?;
-            self.entries.push(entry)?;
-        }
+        keep_entry(self.alloc, &mut self.entries, &self.front)?;
         self.front.go_on(head);
         Ok(())
     }

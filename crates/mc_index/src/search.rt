@@ -1,8 +1,12 @@
-ghost use Rattle.std.specs.Prelude.{◌≡◌, ◌≤◌, ℕ, List, length, Some, None, IfOk};
+ghost use Rattle.std.specs.Prelude.{◌≡◌, ◌≤◌, ℕ, List, length, Some, None, IfOk, IfSome, Contains};
+ghost use Rattle.std.specs.Prelude.{◌==◌, find};
+ghost use Rattle.std.specs.Option.{option_copied};
+ghost use Rattle.mc_index.specs.declared.entry.LastSync.{LastSync};
+ghost use Rattle.mc_index.specs.declared.entry.Entry.{Entry};
 ghost use Rattle.mc_outside.specs.Shelf.{content};
 ghost use Rattle.mc_cursor.specs.Causes.{ReadCause, Keeps};
-ghost use Rattle.mc_index.specs.Entries.{point_for, is_upto};
-ghost use Rattle.mc_index.specs.Searches.{found_by};
+ghost use Rattle.mc_index.specs.Entries.{is_upto};
+ghost use Rattle.mc_index.specs.Searches.{found_by, since_in};
 
 use crate::entry::{Entry, LastSync, Point};
 use crate::index::{Index, opening_mark};
@@ -39,13 +43,10 @@ pub(crate) enum Found {
     End,
 }
 
-fn point_for(tracks: &[LastSync], track: TrackNo) -> Option<Point>
-    ensures { result ≡ point_for track tracks.now }
+fn find_track(tracks: &[LastSync], track: TrackNo) -> Option<&LastSync>
+    ensures { option_copied result ≡ find (λ (l : LastSync). l.track == track) tracks.now }
 {
-    match tracks.iter().find(|last| last.track == track) {
-        Some(last) => last.point,
-        None => None,
-    }
+    tracks.iter().find(|last| last.track == track)
 }
 
 fn is_upto(point: Option<Point>, t: i64) -> bool
@@ -71,27 +72,34 @@ fn found_by(head: &HeadChunk, track: TrackNo, t: i64) -> Found
 }
 
 impl Entry {
-    fn point_for(&self, track: TrackNo) -> Option<Point>
-        ensures { result ≡ point_for track self.now.tracks.items }
+    // Reading on from here finds the keyframes next to a time, where no keyframe of the track behind
+    // that time is known here.
+    fn since(&self, track: TrackNo, t: i64) -> Option<Since>
+        ensures { result ≡ since_in track t self.now }
     {
-        point_for(self.tracks.as_slice(), track)
-    }
-
-    // No keyframe behind the time is known before the entry.
-    fn is_upto(&self, track: TrackNo, t: i64) -> bool
-        ensures { result ≡ is_upto t (point_for track self.now.tracks.items) }
-    {
-        is_upto(self.point_for(track), t)
-    }
-
-    fn since(&self, track: TrackNo) -> Since
-        ensures { result ≡ record { mark = self.now.mark; before = point_for track self.now.tracks.items } }
-    {
-        Since {
-            mark: self.mark,
-            before: self.point_for(track),
+        match find_track(self.tracks.as_slice(), track) {
+            Some(last) => if is_upto(last.point, t) {
+                Some(Since {
+                    mark: self.mark,
+                    before: last.point,
+                })
+            } else {
+                None
+            },
+            None => None,
         }
     }
+}
+
+// Reading on from the last of the entries that the search passes.
+fn since_entry(entries: &[Entry], track: TrackNo, t: i64) -> Option<Since>
+    ensures { IfSome result (λ s. (e : Entry) × Contains entries.now e × (since_in track t e ≡ Some s)) }
+{
+    let passed = passed(entries, track, t);
+    if passed == 0 {
+        return None;
+    }
+    entries[passed - 1].since(track, t)
 }
 
 // How many of the entries the search passes: those up to which no later keyframe is known, where the
@@ -103,7 +111,7 @@ fn passed(entries: &[Entry], track: TrackNo, t: i64) -> usize
     let mut high = entries.len();
     while low < high {
         let middle = low + (high - low) / 2;
-        if entries[middle].is_upto(track, t) {
+        if entries[middle].since(track, t).is_some() {
             low = middle + 1;
         } else {
             high = middle;
@@ -125,19 +133,15 @@ impl Index {
     fn nearest(&self, track: TrackNo, t: i64) -> Since
         ensures { (plan : Plan) → IsIndexOf plan self.now → IsSince plan track t result }
     {
-        if self.front.is_upto(track, t) {
-            return self.front.since(track);
+        if let Some(since) = self.front.since(track, t) {
+            return since;
         }
-        let passed = passed(self.entries.as_slice(), track, t);
-        if passed > 0 {
-            let entry = &self.entries[passed - 1];
-            if entry.is_upto(track, t) {
-                return entry.since(track);
-            }
-        }
-        Since {
-            mark: opening_mark(),
-            before: None,
+        match since_entry(self.entries.as_slice(), track, t) {
+            Some(since) => since,
+            None => Since {
+                mark: opening_mark(),
+                before: None,
+            },
         }
     }
 

@@ -2,7 +2,7 @@ ghost use Rattle.std.specs.Prelude.{◌≡◌, nat_le};
 ghost use Rattle.mc_journal.specs.Choices.{or_else};
 ghost use Rattle.mc_journal.specs.Films.{audio_dir};
 ghost use Rattle.mc_index.specs.Answers.{needed_lead};
-ghost use Rattle.mc_index.specs.Searches.{is_at, chosen, point_time, point_mark, track_mark, least_mark, mark_or_opening, start_by, starts_by, sub_mark, seek_starts, switch_starts};
+ghost use Rattle.mc_index.specs.Searches.{is_at, chosen, point_time, point_mark, track_mark, least_mark, mark_or_opening, start_by, starts_by, sub_mark, seek_starts, reference, seek_of, switch_of};
 
 use crate::entry::Point;
 use crate::index::opening_mark;
@@ -29,8 +29,8 @@ fn is_at(point: Option<Point>, t: i64) -> bool
     }
 }
 
-/// The keyframe that a seek to a time asks for, by those next to it.
-pub(crate) fn chosen(around: Around, dir: Dir, t: i64) -> Option<Point>
+// The keyframe that a seek to a time asks for, by those next to it.
+fn chosen(around: Around, dir: Dir, t: i64) -> Option<Point>
     ensures { result ≡ chosen dir t around }
 {
     match dir {
@@ -43,8 +43,8 @@ pub(crate) fn chosen(around: Around, dir: Dir, t: i64) -> Option<Point>
     }
 }
 
-/// In which direction audio looks: back, from the video keyframe's time, where a video track leads.
-pub(crate) fn audio_dir(video: Option<TrackNo>, dir: Dir) -> Dir
+// In which direction audio looks: back, from the video keyframe's time, where a video track leads.
+fn audio_dir(video: Option<TrackNo>, dir: Dir) -> Dir
     ensures { result ≡ audio_dir video dir }
 {
     match video {
@@ -53,8 +53,8 @@ pub(crate) fn audio_dir(video: Option<TrackNo>, dir: Dir) -> Dir
     }
 }
 
-/// The time of a keyframe, or another one where there is none.
-pub(crate) fn point_time(t: i64, point: Option<Point>) -> i64
+// The time of a keyframe, or another one where there is none.
+fn point_time(t: i64, point: Option<Point>) -> i64
     ensures { result ≡ point_time t point }
 {
     match point {
@@ -142,8 +142,7 @@ fn starts_by(video: Option<Mark>, audio: Option<Mark>, sub: Option<Mark>) -> Sta
     }
 }
 
-/// The starts of a seek, by the keyframes of its video and audio track.
-pub(crate) fn seek_starts(set: Choice, video: Option<Point>, audio: Option<Point>) -> Starts
+fn points_starts(set: Choice, video: Option<Point>, audio: Option<Point>) -> Starts
     ensures { result ≡ seek_starts set video audio }
 {
     let video = track_mark(set.video, video);
@@ -151,18 +150,37 @@ pub(crate) fn seek_starts(set: Choice, video: Option<Point>, audio: Option<Point
     starts_by(video, audio, sub_mark(set.sub, least_mark(video, audio)))
 }
 
-/// The starts of a switch, by the keyframes of the added tracks and that of the lead.
+/// The time by which audio beside video looks for its keyframe: that of the video track's, or `t`
+/// where it has none.
+pub(crate) fn reference(lead: Around, dir: Dir, t: i64) -> i64
+    ensures { result ≡ reference dir t lead }
+{
+    point_time(t, chosen(lead, dir, t))
+}
+
+/// The starts of a seek, by the keyframes of its video track next to `t`, and those of its audio
+/// track next to the reference time.
+pub(crate) fn seek_starts(set: Choice, dir: Dir, t: i64, lead: Around, beside: Around) -> Starts
+    ensures { result ≡ seek_of set dir t lead beside }
+{
+    let time = reference(lead, dir, t);
+    let audio = chosen(beside, audio_dir(set.video, dir), time);
+    points_starts(set, chosen(lead, dir, t), audio)
+}
+
+/// The starts of a switch, by the keyframes next to `at` of the added tracks, and of the lead.
 pub(crate) fn switch_starts(
     added: Choice,
-    video: Option<Point>,
-    audio: Option<Point>,
-    lead: Option<Point>,
+    at: i64,
+    video: Around,
+    audio: Around,
+    lead: Around,
 ) -> Starts
-    ensures { result ≡ switch_starts added video audio lead }
+    ensures { result ≡ switch_of added at video audio lead }
 {
     starts_by(
-        track_mark(added.video, video),
-        track_mark(added.audio, audio),
-        track_mark(added.sub, lead),
+        track_mark(added.video, chosen(video, Dir::Back, at)),
+        track_mark(added.audio, chosen(audio, Dir::Back, at)),
+        track_mark(added.sub, lead.before),
     )
 }

@@ -166,13 +166,16 @@ chosen-told plan Forward t (Some p) after =
         ≡ option_map (point_of plan) (if b then Some p else or_else after (Some p)))
     [ true ↦ refl | false ↦ sym (map-or_else (point_of plan) after (Some p)) ]
 
+around-is : (a : Around) (before after : Option Point) → a.before ≡ before → a.after ≡ after → a ≡ record { before = before; after = after }
+around-is a before after e f =
+    ap (λ (p : Option Point). let x : Around = record { before = p; after = a.after } in x) e ∙ ap (λ (p : Option Point). let x : Around = record { before = before; after = p } in x) f
+
 -- by the sync points next to a time, the one that a seek asks for
 pub around-chosen : (plan : Plan) (track : ℕ) (dir : Dir) (t : ℤ) (a : Around) → IsAround plan track t a → TimesRise (film_points plan track)
     → chosen dir t a ≡ option_map (point_of plan) (sync_for dir t (film_points plan track))
 around-chosen plan track dir t a around rise =
     let rise' = subst TimesRise around.whole rise in
-    let same : a ≡ record { before = option_map (point_of plan) (last around.earlier); after = option_map (point_of plan) (first around.later) } =
-    cc (around.before, around.after) in
+    let same = around-is a (option_map (point_of plan) (last around.earlier)) (option_map (point_of plan) (first around.later)) around.before around.after in
     ap (chosen dir t) same ∙ chosen-told plan dir t (last around.earlier) (first around.later)
     ∙ ap (option_map (point_of plan)) (sym (sync-by dir t around.earlier around.later rise' around.upto around.past))
     ∙ ap (λ ts. option_map (point_of plan) (sync_for dir t ts)) (sym around.whole)

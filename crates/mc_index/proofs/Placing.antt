@@ -152,7 +152,7 @@ start-placed plan (Some m) h = h.start
 
 -- ---- the mark at the least start
 
-min-by : (a b : Mark) → (if nat_le a.pos b.pos then a else b).pos ≡ min a.pos b.pos
+pub min-by : (a b : Mark) → (if nat_le a.pos b.pos then a else b).pos ≡ min a.pos b.pos
 min-by a b = elim (cases_Bool (nat_le a.pos b.pos)) [
     | inl le ↦ rw le (grind (arith, nat_tests))
     | inr more ↦ rw more (grind (arith, nat_tests))

@@ -12,6 +12,7 @@
 mod entry;
 mod find;
 mod index;
+mod law;
 mod scan;
 mod search;
 mod starts;
@@ -19,4 +20,5 @@ mod starts;
 mod tests;
 
 pub use index::Index;
+pub use law::block_marks;
 pub use mc_packet::NoMemory;

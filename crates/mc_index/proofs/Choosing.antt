@@ -163,7 +163,7 @@ chosen-told plan Back t before after = sym (map-or_else (point_of plan) before a
 chosen-told plan Forward t None after = sym (map-or_else (point_of plan) after None)
 chosen-told plan Forward t (Some p) after =
     elim (int_le t p.time) as (λ b. (if b then Some (point_of plan p) else or_else (option_map (point_of plan) after) (Some (point_of plan p)))
-        ≡ option_map (point_of plan) (if b then Some p else or_else after (Some p)))
+    ≡ option_map (point_of plan) (if b then Some p else or_else after (Some p)))
     [ true ↦ refl | false ↦ sym (map-or_else (point_of plan) after (Some p)) ]
 
 around-is : (a : Around) (before after : Option Point) → a.before ≡ before → a.after ≡ after → a ≡ record { before = before; after = after }

@@ -167,22 +167,22 @@ front-later plan n _ m _ ps _ is h front at_opening = absurd (omega arith)
 front-later plan n _ m _ ps _ is h front (read_on k mk pk before goes) =
     elim (cases_lt n k) [
       | inl less ↦
-        let earlier = front-later plan n k m mk ps pk is less front before in
-        let on = (part-onward plan k mk pk is before).2 goes in
-        record {
-          goes = earlier.goes;
-          onward = omega (arith, earlier.onward, mark-under plan mk, on);
-          rest = earlier.rest ++ (part_at plan mk).packets;
-          whole = ap (λ qs. qs ++ (part_at plan mk).packets) earlier.whole ∙ append_assoc ps earlier.rest (part_at plan mk).packets;
-        }
+          let earlier = front-later plan n k m mk ps pk is less front before in
+          let on = (part-onward plan k mk pk is before).2 goes in
+          record {
+            goes = earlier.goes;
+            onward = omega (arith, earlier.onward, mark-under plan mk, on);
+            rest = earlier.rest ++ (part_at plan mk).packets;
+            whole = ap (λ qs. qs ++ (part_at plan mk).packets) earlier.whole ∙ append_assoc ps earlier.rest (part_at plan mk).packets;
+          }
       | inr le ↦
-        let e : n ≡ k = omega arith in
-        let same = front-same plan n k m mk ps pk e front before in
-        let at : (part_at plan mk).to ≡ (part_at plan m).to = ap (λ (j : Mark). (part_at plan j).to) same.mark in
-        record {
-          goes = subst (λ (j : Mark). (part_at plan j).ending ≡ None) same.mark goes;
-          onward = subst (λ (j : Mark). (part_at plan m).to.pos ≤ j.pos) (sym at) (omega arith);
-          rest = (part_at plan mk).packets;
-          whole = ap (λ qs. qs ++ (part_at plan mk).packets) same.packets;
-        }
+          let e : n ≡ k = omega arith in
+          let same = front-same plan n k m mk ps pk e front before in
+          let at : (part_at plan mk).to ≡ (part_at plan m).to = ap (λ (j : Mark). (part_at plan j).to) same.mark in
+          record {
+            goes = subst (λ (j : Mark). (part_at plan j).ending ≡ None) same.mark goes;
+            onward = subst (λ (j : Mark). (part_at plan m).to.pos ≤ j.pos) (sym at) (omega arith);
+            rest = (part_at plan mk).packets;
+            whole = ap (λ qs. qs ++ (part_at plan mk).packets) same.packets;
+          }
     ]

@@ -193,14 +193,14 @@ shown-later plan track t s n m ps is since rise front past =
       | inl later ↦ front-later plan since.blocks n s.mark m since.packets ps is later since.read front
       | inr not_later ↦ absurd (elim (cases_lt n since.blocks) [
         | inr other ↦
-          let e : n ≡ since.blocks = omega arith in
-          let same = front-same plan n since.blocks m s.mark ps since.packets e front since.read in
-          let all : any_past t (points_of track since.packets) ≡ true = ap (λ qs. any_past t (points_of track qs)) same.packets ∙ past in
-          cc (none, all)
+            let e : n ≡ since.blocks = omega arith in
+            let same = front-same plan n since.blocks m s.mark ps since.packets e front since.read in
+            let all : any_past t (points_of track since.packets) ≡ true = ap (λ qs. any_past t (points_of track qs)) same.packets ∙ past in
+            cc (none, all)
         | inl less ↦
-          let before = front-later plan n since.blocks m s.mark ps since.packets is less front since.read in
-          let all = front-shown track t ps before.rest since.packets before.whole past in
-          cc (none, all)
+            let before = front-later plan n since.blocks m s.mark ps since.packets is less front since.read in
+            let all = front-shown track t ps before.rest since.packets before.whole past in
+            cc (none, all)
       ])
     ]
 

@@ -154,9 +154,9 @@ start-placed plan (Some m) h = h.start
 
 pub min-by : (a b : Mark) → (if nat_le a.pos b.pos then a else b).pos ≡ min a.pos b.pos
 min-by a b = elim (cases_Bool (nat_le a.pos b.pos)) [
-    | inl le ↦ rw le (grind (arith, nat_tests))
-    | inr more ↦ rw more (grind (arith, nat_tests))
-  ]
+  | inl le ↦ rw le (grind (arith, nat_tests))
+  | inr more ↦ rw more (grind (arith, nat_tests))
+]
 
 start-least : (a b : Option Mark) → start_by (least_mark a b) ≡ least_start (start_by a) (start_by b)
 start-least None b = refl

@@ -105,7 +105,7 @@ sub-start plan set V A (Some k) e distinct =
     let video : is_track set.video k ≡ false = other-before set.video k apart in
     let audio : is_track set.audio k ≡ false = other-before set.audio k apart' in
     rw (video, audio) (ap Some (least-start set.video set.audio (point_in plan V) (point_in plan A) ∙ ap (λ n. least_of set.video set.audio n (point_mark (point_in plan A)).pos) (block-of plan V)
-        ∙ ap (least_of set.video set.audio (block_of V)) (block-of plan A)))
+    ∙ ap (least_of set.video set.audio (block_of V)) (block-of plan A)))
 
 points-start : (plan : Plan) (set : Choice) (V A : Option Told) → is_distinct set ≡ true → AreStarts set (rule_start set V A) (seek_starts set (point_in plan V) (point_in plan A))
 points-start plan set V A distinct = record {

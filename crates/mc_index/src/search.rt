@@ -66,7 +66,11 @@ fn found_by(head: &HeadChunk, track: TrackNo, t: i64) -> Found
         return Found::End;
     }
     match track_point(track, head) {
-        Some(point) => if point.time <= t { Found::Upto(point) } else { Found::Past(point) },
+        Some(point) => if point.time <= t {
+            Found::Upto(point)
+        } else {
+            Found::Past(point)
+        },
         None => Found::Other,
     }
 }

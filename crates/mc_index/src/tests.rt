@@ -115,7 +115,13 @@ fn keyframe(keys: &[(TrackNo, u64, i64)], track: TrackNo, dir: Dir, t: i64) -> O
 }
 
 // Where a video and an audio track start.
-fn rule(keys: &[(TrackNo, u64, i64)], video: TrackNo, audio: TrackNo, dir: Dir, t: i64) -> Option<(u64, u64)> {
+fn rule(
+    keys: &[(TrackNo, u64, i64)],
+    video: TrackNo,
+    audio: TrackNo,
+    dir: Dir,
+    t: i64,
+) -> Option<(u64, u64)> {
     let (start, time) = keyframe(keys, video, dir, t)?;
     let (beside, _) = keyframe(keys, audio, Dir::Back, time)?;
     Some((start, beside))
@@ -138,7 +144,13 @@ fn finds_starts_of_a_seek(rt: HostRuntime) -> Result<(), Fail> {
     let (mut shelf, file) = opened(alloc, &ONE)?;
     let mut cursor = Cursor::begin(alloc, &mut shelf, file)?;
     let mut index = Index::new(alloc, cursor.tracks())?;
-    let starts = index.find(&mut cursor, &mut shelf, set_of(Some(1), Some(2)), 200 * MILLI, Dir::Back)?;
+    let starts = index.find(
+        &mut cursor,
+        &mut shelf,
+        set_of(Some(1), Some(2)),
+        200 * MILLI,
+        Dir::Back,
+    )?;
     let wanted = Starts {
         video: Some(143),
         audio: Some(150),
@@ -171,7 +183,13 @@ fn finds_starts_of_a_switch(rt: HostRuntime) -> Result<(), Fail> {
     let (mut shelf, file) = opened(alloc, &TWO)?;
     let mut cursor = Cursor::begin(alloc, &mut shelf, file)?;
     let mut index = Index::new(alloc, cursor.tracks())?;
-    let starts = index.find_switch(&mut cursor, &mut shelf, set_of(None, Some(3)), Some(1), 150 * MILLI)?;
+    let starts = index.find_switch(
+        &mut cursor,
+        &mut shelf,
+        set_of(None, Some(3)),
+        Some(1),
+        150 * MILLI,
+    )?;
     assert!(rt; starts.video.is_none() && starts.audio == Some(141) && starts.mark.pos == 141);
     Ok(())
 }

@@ -11,11 +11,11 @@ loop-last-preserved c =
     let i = c.loop-last.last-index in
     elim c.if-track-last.branch [
       | then-track-last w ↦
-        let same = noted-same c.args.track c.args.point (get_or ts i d) w.if-track-last.true in
-        noted-next c.args.track c.args.point c.args.tracks.now ts c.if-track-last.tracks i d (omega (arith, c.loop-last-test.true)) c.loop-last.invariant
-        (w.tracks-is ∙ ap (set ts i) (sym same))
+          let same = noted-same c.args.track c.args.point (get_or ts i d) w.if-track-last.true in
+          noted-next c.args.track c.args.point c.args.tracks.now ts c.if-track-last.tracks i d (omega (arith, c.loop-last-test.true)) c.loop-last.invariant
+          (w.tracks-is ∙ ap (set ts i) (sym same))
       | else-track-last w ↦
-        let same = noted-other c.args.track c.args.point (get_or ts i d) w.if-track-last.false in
-        noted-next c.args.track c.args.point c.args.tracks.now ts c.if-track-last.tracks i d (omega (arith, c.loop-last-test.true)) c.loop-last.invariant
-        (w.tracks-is ∙ ap (set ts i) (sym same))
+          let same = noted-other c.args.track c.args.point (get_or ts i d) w.if-track-last.false in
+          noted-next c.args.track c.args.point c.args.tracks.now ts c.if-track-last.tracks i d (omega (arith, c.loop-last-test.true)) c.loop-last.invariant
+          (w.tracks-is ∙ ap (set ts i) (sym same))
     ]

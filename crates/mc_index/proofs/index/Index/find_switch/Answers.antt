@@ -11,7 +11,7 @@ use Rattle.mc_index.proofs.index.Index.find_switch.Goals as goal
 
 pub returns-clause-tracks : goal.returns-clause-tracks
 returns-clause-tracks g c =
-    let is = rw (to_z-of_z c.ranges.at) at c.switch_starts.ensures in
+    let is = c.switch_starts.ensures in
     subst (AreFor c.args.added) (sym is) (switch-tracks c.args.added c.args.at c.in_ok-video.video c.in_ok-audio.audio c.in_ok-leading.leading)
 
 pub returns-clause-blocks : goal.returns-clause-blocks
@@ -31,7 +31,7 @@ returns-clause-blocks g c =
     let two = rw plain at (near-moved octets c.args.cursor.now first c.args.added.audio _ c.in_ok-audio.audio moves (c.in_ok-audio.ensures.around octets told' st.0 st.1)) in
     let raw = rw plain at (near-moved octets c.args.cursor.now second c.needed_lead.result _ c.in_ok-leading.leading moves' (c.in_ok-leading.ensures.around octets told'' st'.0 st'.1)) in
     let three = subst (λ o. IsNear plan o c.args.at c.in_ok-leading.leading) c.needed_lead.ensures raw in
-    let is = rw plain at c.switch_starts.ensures in
+    let is = c.switch_starts.ensures in
     subst (AreOfBlocks plan) (sym is) (switch-blocks plan c.args.added c.args.at c.in_ok-video.video c.in_ok-audio.audio c.in_ok-leading.leading _ one two three)
 
 pub returns-clause-starts : goal.returns-clause-starts
@@ -51,7 +51,7 @@ returns-clause-starts g c =
     let two = rw plain at (near-moved octets c.args.cursor.now first c.args.added.audio _ c.in_ok-audio.audio moves (c.in_ok-audio.ensures.around octets told' st.0 st.1)) in
     let raw = rw plain at (near-moved octets c.args.cursor.now second c.needed_lead.result _ c.in_ok-leading.leading moves' (c.in_ok-leading.ensures.around octets told'' st'.0 st'.1)) in
     let three = subst (λ o. IsNear plan o c.args.at c.in_ok-leading.leading) c.needed_lead.ensures raw in
-    let is = rw plain at c.switch_starts.ensures in
+    let is = c.switch_starts.ensures in
     subst (SwitchStarts plan c.args.added c.args.lead c.args.at) (sym is)
     (switch-value plan c.args.added c.args.lead c.args.at c.in_ok-video.video c.in_ok-audio.audio c.in_ok-leading.leading one two three)
 

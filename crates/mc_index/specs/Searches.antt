@@ -55,6 +55,11 @@ unless_ended (Some ending) f = found.End
 abbrev pub found_by : ℕ → ℤ → HeadChunk → Found
 found_by track t k = unless_ended k.ending (found_point t (track_point track k k.block))
 
+-- the film did not end there
+abbrev pub IsOn : Found → Type 0
+IsOn found.End = ⊥
+IsOn _ = ⊤
+
 -- where the look-up goes on, it does so behind its place
 abbrev pub GoesOn : Found → Mark → Mark → Type 0
 GoesOn found.Other from to = (from.pos < to.pos) × (to.pos < 2 ^ 64)

@@ -86,6 +86,7 @@ impl Index {
     pub(crate) fn note(&mut self, head: &HeadChunk) -> Result<(), NoMemory>
         requires { head.now.ending ≡ None → head.now.from.pos < head.now.to.pos }
         ensures stands { (plan : Plan) → IsPlan plan → head.now ≡ head_chunk_of (chunk_at plan head.now.from) → IsIndexOf plan self.old → IsIndexOf plan self.new }
+        ensures noted { OnOk result (head.now.ending ≡ None → head.now.from ≡ self.old.front.mark → (self.new.front.mark ≡ head.now.to) × (self.new.front.blocks ≡ self.old.front.blocks + 1)) }
     {
         if head.ending.is_some() || head.from != self.front.mark {
             return Ok(());

@@ -131,7 +131,7 @@ impl Index {
     ghost use Rattle.mc_cursor.specs.Standing.{plan_for, mark_of, file_of, at_mark, ReadsPart};
     ghost use Rattle.mc_index.specs.Scans.{IsIndexOf, OfFilm, StandFor};
     ghost use Rattle.mc_index.specs.Answers.{IsAround};
-    ghost use Rattle.mc_index.specs.Searches.{IsSince, GoesOn, NearReads};
+    ghost use Rattle.mc_index.specs.Searches.{IsSince, IsOn, GoesOn, NearReads};
 
     // The nearest place from which to look for the keyframes next to a time.
     fn nearest(&self, track: TrackNo, t: i64) -> Since
@@ -161,6 +161,7 @@ impl Index {
         ensures stands { OfFilm (content (S.files shelf.old) (S.opened shelf.old) (file_of cursor.old)) cursor.old self.old (λ octets. StandFor octets cursor.new self.new) }
         ensures moves { cursor.new ≡ at_mark cursor.old (mark_of cursor.new) }
         ensures onward { IfOk result (λ f. GoesOn f (mark_of cursor.old) (mark_of cursor.new)) }
+        ensures follows { IfOk result (λ f. IsOn f → mark_of cursor.old ≡ self.old.front.mark → mark_of cursor.new ≡ self.new.front.mark) }
         ensures cause { ReadCause (S.faults shelf.old) (S.faults shelf.new) result }
         ensures kept { Keeps (S.files shelf.old) (S.files shelf.new) (S.opened shelf.old) (S.opened shelf.new) (S.reach shelf.old) (S.reach shelf.new) }
         ensures reach { OfFilm (content (S.files shelf.old) (S.opened shelf.old) (file_of cursor.old)) cursor.old self.old (λ octets. ReadsPart (part_at (plan_for octets cursor.old) (mark_of cursor.old)) (S.reach shelf.old) (S.reach shelf.new)) }

@@ -194,6 +194,25 @@ fn finds_starts_of_a_switch(rt: HostRuntime) -> Result<(), Fail> {
     Ok(())
 }
 
+// With Cues behind the last Cluster, whose one entry names a place where no Cluster stands.
+#[test]
+fn trusts_no_cues(rt: HostRuntime) -> Result<(), Fail> {
+    let alloc = rt.alloc();
+    let mut film = Vec::from_slice(alloc, &ONE)?;
+    film[21] = 0xE0;
+    film.extend_from_slice(&[0x1C, 0x53, 0xBB, 0x6B, 0x8D, 0xBB, 0x8B, 0xB3, 0x81, 0x00])?;
+    film.extend_from_slice(&[0xB7, 0x86, 0xF7, 0x81, 0x01, 0xF1, 0x81, 0x01])?;
+    let (mut shelf, file) = opened(alloc, film.as_slice())?;
+    let mut cursor = Cursor::begin(alloc, &mut shelf, file)?;
+    let mut index = Index::new(alloc, cursor.tracks())?;
+    let set = set_of(Some(1), Some(2));
+    let late = index.find(&mut cursor, &mut shelf, set, 999 * MILLI, Dir::Back)?;
+    assert!(rt; is_at(late, Some((200, 207))));
+    let starts = index.find(&mut cursor, &mut shelf, set, 200 * MILLI, Dir::Back)?;
+    assert!(rt; is_at(starts, Some((143, 150))));
+    Ok(())
+}
+
 // Every 7 ms from before the first keyframe to behind the last one, over one index.
 fn follows_rule(
     alloc: Global,

@@ -1,6 +1,6 @@
 use crate::Index;
 use mc_cursor::{BlockMark, Cursor};
-use mc_outside::{FileNo, MemShelf, NamedFile, NamedFiles, Shelf, Spots};
+use mc_outside::{MemShelf, NamedFile, NamedFiles, Shelf, Spots};
 use mc_packet::{Choice, Dir, Level, Mark, Starts, TrackNo};
 use std::alloc::Global;
 use std::test::Fail;
@@ -71,12 +71,51 @@ const TWO_KEYS: [(TrackNo, u64, i64); 9] = [
 
 const MILLI: i64 = 1_000_000;
 
-fn opened(alloc: Global, film: &[u8]) -> Result<(MemShelf, FileNo), Fail> {
+// A film in memory with a cursor and an index of it.
+#[derive(Drop)]
+struct Reading {
+    shelf: MemShelf,
+    cursor: Cursor,
+    index: Index,
+}
+
+fn opened(alloc: Global, film: &[u8]) -> Result<Reading, Fail> {
     let mut files = NamedFiles::new(alloc);
     files.push(NamedFile::new(alloc, "film.mkv", film)?)?;
     let mut shelf = MemShelf::new(files, Spots::new(alloc));
     let file = shelf.open_file("film.mkv")?;
-    Ok((shelf, file))
+    let cursor = Cursor::begin(alloc, &mut shelf, file)?;
+    let index = Index::new(alloc, cursor.tracks())?;
+    Ok(Reading {
+        shelf,
+        cursor,
+        index,
+    })
+}
+
+impl Reading {
+    // The starts at a time in milliseconds.
+    fn find(&mut self, set: Choice, t: i16, dir: Dir) -> Result<Starts, Fail> {
+        let t = (t as i64) * MILLI;
+        Ok(
+            self.index
+                .find(&mut self.cursor, &mut self.shelf, set, t, dir)?,
+        )
+    }
+
+    fn find_switch(&mut self, added: Choice, lead: TrackNo, at: i16) -> Result<Starts, Fail> {
+        let at = (at as i64) * MILLI;
+        Ok(
+            self.index
+                .find_switch(&mut self.cursor, &mut self.shelf, added, Some(lead), at)?,
+        )
+    }
+
+    // The block element that is read from a mark on.
+    fn block_from(&mut self, mark: Mark) -> Result<Option<BlockMark>, Fail> {
+        self.cursor.goto(mark);
+        Ok(self.cursor.next_head(&mut self.shelf)?.block)
+    }
 }
 
 fn set_of(video: Option<TrackNo>, audio: Option<TrackNo>) -> Choice {
@@ -140,17 +179,8 @@ fn is_at(starts: Starts, wanted: Option<(u64, u64)>) -> bool {
 
 #[test]
 fn finds_starts_of_a_seek(rt: HostRuntime) -> Result<(), Fail> {
-    let alloc = rt.alloc();
-    let (mut shelf, file) = opened(alloc, &ONE)?;
-    let mut cursor = Cursor::begin(alloc, &mut shelf, file)?;
-    let mut index = Index::new(alloc, cursor.tracks())?;
-    let starts = index.find(
-        &mut cursor,
-        &mut shelf,
-        set_of(Some(1), Some(2)),
-        200 * MILLI,
-        Dir::Back,
-    )?;
+    let mut film = opened(rt.alloc(), &ONE)?;
+    let starts = film.find(set_of(Some(1), Some(2)), 200, Dir::Back)?;
     let wanted = Starts {
         video: Some(143),
         audio: Some(150),
@@ -164,32 +194,21 @@ fn finds_starts_of_a_seek(rt: HostRuntime) -> Result<(), Fail> {
         },
     };
     assert!(rt; starts == wanted);
-    assert!(rt; index.entries() == 1 && index.blocks() == 15);
-    cursor.goto(starts.mark);
-    let head = cursor.next_head(&mut shelf)?;
+    assert!(rt; film.index.entries() == 1 && film.index.blocks() == 15);
     let block = BlockMark {
         track: 1,
         pos: 143,
         time: 120 * MILLI,
         key: true,
     };
-    assert!(rt; head.block == Some(block));
+    assert!(rt; film.block_from(starts.mark)? == Some(block));
     Ok(())
 }
 
 #[test]
 fn finds_starts_of_a_switch(rt: HostRuntime) -> Result<(), Fail> {
-    let alloc = rt.alloc();
-    let (mut shelf, file) = opened(alloc, &TWO)?;
-    let mut cursor = Cursor::begin(alloc, &mut shelf, file)?;
-    let mut index = Index::new(alloc, cursor.tracks())?;
-    let starts = index.find_switch(
-        &mut cursor,
-        &mut shelf,
-        set_of(None, Some(3)),
-        Some(1),
-        150 * MILLI,
-    )?;
+    let mut film = opened(rt.alloc(), &TWO)?;
+    let starts = film.find_switch(set_of(None, Some(3)), 1, 150)?;
     assert!(rt; starts.video.is_none() && starts.audio == Some(141) && starts.mark.pos == 141);
     Ok(())
 }
@@ -198,38 +217,30 @@ fn finds_starts_of_a_switch(rt: HostRuntime) -> Result<(), Fail> {
 #[test]
 fn trusts_no_cues(rt: HostRuntime) -> Result<(), Fail> {
     let alloc = rt.alloc();
-    let mut film = Vec::from_slice(alloc, &ONE)?;
-    film[21] = 0xE0;
-    film.extend_from_slice(&[0x1C, 0x53, 0xBB, 0x6B, 0x8D, 0xBB, 0x8B, 0xB3, 0x81, 0x00])?;
-    film.extend_from_slice(&[0xB7, 0x86, 0xF7, 0x81, 0x01, 0xF1, 0x81, 0x01])?;
-    let (mut shelf, file) = opened(alloc, film.as_slice())?;
-    let mut cursor = Cursor::begin(alloc, &mut shelf, file)?;
-    let mut index = Index::new(alloc, cursor.tracks())?;
+    let mut octets = Vec::from_slice(alloc, &ONE[..21])?;
+    octets.push(0xE0)?;
+    octets.extend_from_slice(&ONE[22..])?;
+    octets.extend_from_slice(&[0x1C, 0x53, 0xBB, 0x6B, 0x8D, 0xBB, 0x8B, 0xB3, 0x81, 0x00])?;
+    octets.extend_from_slice(&[0xB7, 0x86, 0xF7, 0x81, 0x01, 0xF1, 0x81, 0x01])?;
+    let mut film = opened(alloc, octets.as_slice())?;
     let set = set_of(Some(1), Some(2));
-    let late = index.find(&mut cursor, &mut shelf, set, 999 * MILLI, Dir::Back)?;
-    assert!(rt; is_at(late, Some((200, 207))));
-    let starts = index.find(&mut cursor, &mut shelf, set, 200 * MILLI, Dir::Back)?;
-    assert!(rt; is_at(starts, Some((143, 150))));
+    assert!(rt; is_at(film.find(set, 999, Dir::Back)?, Some((200, 207))));
+    assert!(rt; is_at(film.find(set, 200, Dir::Back)?, Some((143, 150))));
     Ok(())
 }
 
 // Every 7 ms from before the first keyframe to behind the last one, over one index.
 fn follows_rule(
-    alloc: Global,
-    film: &[u8],
+    film: &mut Reading,
     keys: &[(TrackNo, u64, i64)],
     audio: TrackNo,
     dir: Dir,
 ) -> Result<bool, Fail> {
-    let (mut shelf, file) = opened(alloc, film)?;
-    let mut cursor = Cursor::begin(alloc, &mut shelf, file)?;
-    let mut index = Index::new(alloc, cursor.tracks())?;
-    let set = set_of(Some(1), Some(audio));
     let mut right = true;
     for step in 0..58u8 {
-        let t = 7 * (step as i64) - 1;
-        let starts = index.find(&mut cursor, &mut shelf, set, t * MILLI, dir)?;
-        right = right && is_at(starts, rule(keys, 1, audio, dir, t));
+        let t = 7 * (step as i16) - 1;
+        let starts = film.find(set_of(Some(1), Some(audio)), t, dir)?;
+        right = right && is_at(starts, rule(keys, 1, audio, dir, t as i64));
     }
     Ok(right)
 }
@@ -237,9 +248,11 @@ fn follows_rule(
 #[test]
 fn follows_the_plain_rule(rt: HostRuntime) -> Result<(), Fail> {
     let alloc = rt.alloc();
-    assert!(rt; follows_rule(alloc, &ONE, &ONE_KEYS, 2, Dir::Back)?);
-    assert!(rt; follows_rule(alloc, &ONE, &ONE_KEYS, 2, Dir::Forward)?);
-    assert!(rt; follows_rule(alloc, &TWO, &TWO_KEYS, 3, Dir::Back)?);
-    assert!(rt; follows_rule(alloc, &TWO, &TWO_KEYS, 3, Dir::Forward)?);
+    let mut one = opened(alloc, &ONE)?;
+    assert!(rt; follows_rule(&mut one, &ONE_KEYS, 2, Dir::Back)?);
+    assert!(rt; follows_rule(&mut one, &ONE_KEYS, 2, Dir::Forward)?);
+    let mut two = opened(alloc, &TWO)?;
+    assert!(rt; follows_rule(&mut two, &TWO_KEYS, 3, Dir::Back)?);
+    assert!(rt; follows_rule(&mut two, &TWO_KEYS, 3, Dir::Forward)?);
     Ok(())
 }

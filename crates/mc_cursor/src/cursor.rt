@@ -97,7 +97,8 @@ impl Cursor {
 
     /// Reads on as `next_chunk` does, and moves alike, but reads no payload: of a SimpleBlock without
     /// a lace at most the first 12 octets of the body, and the last, to learn that the film reaches
-    /// so far. A lace and a BlockGroup are read whole.
+    /// so far. A lace and a BlockGroup are read whole. Before the ending it moves onward, whatever
+    /// the shelf gives.
     ///
     /// From the block's offset, at the level of the chunk's end, the same part is read again: that is
     /// a mark of the film.
@@ -105,6 +106,7 @@ impl Cursor {
         ensures value { IfOk result (λ k. Told (content (S.files shelf.old) (S.opened shelf.old) (file_of self.old)) (λ octets. StandsFor octets self.old → (k ≡ head_chunk_of (chunk_at (plan_for octets self.old) (mark_of self.old))) × StandsFor octets self.new)) }
         ensures marks { IfOk result (λ k. Told (content (S.files shelf.old) (S.opened shelf.old) (file_of self.old)) (λ octets. StandsFor octets self.old → IsMark (plan_for octets self.old) (mark_of self.old) → BlockIsMark (plan_for octets self.old) k)) }
         ensures moves { IfOk result (λ k. (k.from ≡ mark_of self.old) × (self.new ≡ at_mark self.old k.to)) }
+        ensures onward { IfOk result (λ k. k.ending ≡ None → k.from.pos < k.to.pos) }
         ensures err { OnErr result (self.new ≡ self.old) }
         ensures cause { ReadCause (S.faults shelf.old) (S.faults shelf.new) result }
         ensures kept { Keeps (S.files shelf.old) (S.files shelf.new) (S.opened shelf.old) (S.opened shelf.new) (S.reach shelf.old) (S.reach shelf.new) }
@@ -161,6 +163,7 @@ impl Cursor {
     fn read_head_chunk<S: Shelf>(&self, shelf: &mut S) -> Result<HeadChunk, CursorError>
         ensures value { IfOk result (λ k. Told (content (S.files shelf.old) (S.opened shelf.old) self.now.file.0) (λ octets. StandsFor octets self.now → k ≡ head_chunk_of (chunk_at (plan_for octets self.now) self.now.mark))) }
         ensures bounds { IfOk result (λ k. (k.from ≡ self.now.mark) × (0 < k.to.pos)) }
+        ensures onward { IfOk result (λ k. k.ending ≡ None → k.from.pos < k.to.pos) }
         ensures cause { ReadCause (S.faults shelf.old) (S.faults shelf.new) result }
         ensures kept { Keeps (S.files shelf.old) (S.files shelf.new) (S.opened shelf.old) (S.opened shelf.new) (S.reach shelf.old) (S.reach shelf.new) }
         ensures reach { Told (content (S.files shelf.old) (S.opened shelf.old) self.now.file.0) (λ octets. StandsFor octets self.now → ReadsPart (part_at (plan_for octets self.now) self.now.mark) (S.reach shelf.old) (S.reach shelf.new)) }
@@ -230,6 +233,7 @@ impl Cursor {
         requires { (at.pos < block.stop) × (0 < at.pos) }
         ensures value { result ≡ head_by self.now.mark at block taken }
         ensures bounds { (result.from ≡ self.now.mark) × (0 < result.to.pos) }
+        ensures onward { result.ending ≡ None → at.pos < result.to.pos }
     {
         match taken {
             Ok(first) => HeadChunk {

@@ -1,0 +1,13 @@
+pub mod Syncing
+pub mod Fronts
+pub mod Marking
+pub mod Noting
+pub mod Standing
+pub mod Timing
+pub mod Looking
+pub mod SoFar
+pub mod Choosing
+pub mod Placing
+pub mod Ruling
+pub mod Listing
+pub mod Finding

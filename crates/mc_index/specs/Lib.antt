@@ -1,0 +1,5 @@
+pub mod Fronts
+pub mod Entries
+pub mod Scans
+pub mod Answers
+pub mod Searches

@@ -1,0 +1,106 @@
+ghost use Rattle.std.specs.Prelude.{◌≡◌, List, IfOk};
+ghost use Rattle.mc_outside.specs.Shelf.{content};
+ghost use Rattle.mc_cursor.specs.Causes.{ReadCause, Keeps};
+
+use crate::index::Index;
+use crate::search::Around;
+use crate::starts::{needed_lead, reference, seek_starts, switch_starts};
+use mc_cursor::{Cursor, CursorError};
+use mc_outside::Shelf;
+use mc_packet::{Choice, Dir, Starts, TrackNo};
+
+impl Index {
+    ghost use Rattle.mc_cursor.specs.Standing.{plan_for, mark_of, file_of, at_mark};
+    ghost use Rattle.mc_index.specs.Scans.{OfFilm, StandFor};
+    ghost use Rattle.mc_index.specs.Answers.{AreFor, AreOfBlocks, SeekStarts, SeekReads, SwitchStarts, SwitchReads};
+    ghost use Rattle.mc_index.specs.Searches.{IsNear, NearReads};
+
+    /// The keyframes next to a time of a track, if there is one.
+    fn near<S: Shelf>(
+        &mut self,
+        cursor: &mut Cursor,
+        shelf: &mut S,
+        track: Option<TrackNo>,
+        t: i64,
+    ) -> Result<Around, CursorError>
+        ensures around { IfOk result (λ a. OfFilm (content (S.files shelf.old) (S.opened shelf.old) (file_of cursor.old)) cursor.old self.old (λ octets. IsNear (plan_for octets cursor.old) track t a)) }
+        ensures stands { OfFilm (content (S.files shelf.old) (S.opened shelf.old) (file_of cursor.old)) cursor.old self.old (λ octets. StandFor octets cursor.new self.new) }
+        ensures moves { cursor.new ≡ at_mark cursor.old (mark_of cursor.new) }
+        ensures cause { ReadCause (S.faults shelf.old) (S.faults shelf.new) result }
+        ensures kept { Keeps (S.files shelf.old) (S.files shelf.new) (S.opened shelf.old) (S.opened shelf.new) (S.reach shelf.old) (S.reach shelf.new) }
+        ensures reach { OfFilm (content (S.files shelf.old) (S.opened shelf.old) (file_of cursor.old)) cursor.old self.old (λ octets. NearReads (plan_for octets cursor.old) track t (S.reach shelf.old) (S.reach shelf.new)) }
+    {
+        match track {
+            Some(track) => self.around(cursor, shelf, track, t),
+            None => Ok(Around {
+                before: None,
+                after: None,
+            }),
+        }
+    }
+
+    /// Where to read on after a seek of these tracks to the time `t`, in nanoseconds: the offset of a
+    /// block for each of them, and the mark at the least one.
+    ///
+    /// The video track, or the audio track where no video is selected, starts at its last keyframe
+    /// at or before `t`, else at its first; for `Dir::Forward` at its first one at or after `t`, else
+    /// at its last. Audio beside video starts at its last keyframe at or before the time of the
+    /// video track's keyframe, else at its first. A track without keyframes starts at 0, and a
+    /// subtitle where the first of the others does. So it is on a regular film, on which the keyframe
+    /// times of each track rise; on any film each start is 0 or the offset of a block. The mark
+    /// at 0 is the opening mark.
+    ///
+    /// It reads heads on from the nearest place that is known, and no further than to a keyframe of
+    /// each video and audio track behind its time. `ReadFault` comes only where the shelf's count of
+    /// faults rose in this call, or stands at its last value. After any answer the cursor may stand
+    /// elsewhere, and later answers are as they would have been.
+    pub fn find<S: Shelf>(
+        &mut self,
+        cursor: &mut Cursor,
+        shelf: &mut S,
+        set: Choice,
+        t: i64,
+        dir: Dir,
+    ) -> Result<Starts, CursorError>
+        ensures tracks { IfOk result (AreFor set) }
+        ensures blocks { IfOk result (λ s. OfFilm (content (S.files shelf.old) (S.opened shelf.old) (file_of cursor.old)) cursor.old self.old (λ octets. AreOfBlocks (plan_for octets cursor.old) s)) }
+        ensures starts { IfOk result (λ s. OfFilm (content (S.files shelf.old) (S.opened shelf.old) (file_of cursor.old)) cursor.old self.old (λ octets. SeekStarts (plan_for octets cursor.old) set dir t s)) }
+        ensures stands { OfFilm (content (S.files shelf.old) (S.opened shelf.old) (file_of cursor.old)) cursor.old self.old (λ octets. StandFor octets cursor.new self.new) }
+        ensures moves { cursor.new ≡ at_mark cursor.old (mark_of cursor.new) }
+        ensures cause { ReadCause (S.faults shelf.old) (S.faults shelf.new) result }
+        ensures kept { Keeps (S.files shelf.old) (S.files shelf.new) (S.opened shelf.old) (S.opened shelf.new) (S.reach shelf.old) (S.reach shelf.new) }
+        ensures reach { OfFilm (content (S.files shelf.old) (S.opened shelf.old) (file_of cursor.old)) cursor.old self.old (λ octets. SeekReads (plan_for octets cursor.old) set dir t (S.reach shelf.old) (S.reach shelf.new)) }
+    {
+        let lead = self.near(cursor, shelf, set.video, t)?;
+        let time = reference(lead, dir, t);
+        let beside = self.near(cursor, shelf, set.audio, time)?;
+        Ok(seek_starts(set, dir, t, lead, beside))
+    }
+
+    /// Where to read on for tracks that are added at the time `at`, in nanoseconds: as `find`
+    /// answers. A video or audio track starts at its last keyframe at or before `at`, else at its
+    /// first, else at 0; a subtitle at the last such keyframe of the lead, else at 0. The lead is the
+    /// video track, or without one the audio track, that is selected afterwards.
+    pub fn find_switch<S: Shelf>(
+        &mut self,
+        cursor: &mut Cursor,
+        shelf: &mut S,
+        added: Choice,
+        lead: Option<TrackNo>,
+        at: i64,
+    ) -> Result<Starts, CursorError>
+        ensures tracks { IfOk result (AreFor added) }
+        ensures blocks { IfOk result (λ s. OfFilm (content (S.files shelf.old) (S.opened shelf.old) (file_of cursor.old)) cursor.old self.old (λ octets. AreOfBlocks (plan_for octets cursor.old) s)) }
+        ensures starts { IfOk result (λ s. OfFilm (content (S.files shelf.old) (S.opened shelf.old) (file_of cursor.old)) cursor.old self.old (λ octets. SwitchStarts (plan_for octets cursor.old) added lead at s)) }
+        ensures stands { OfFilm (content (S.files shelf.old) (S.opened shelf.old) (file_of cursor.old)) cursor.old self.old (λ octets. StandFor octets cursor.new self.new) }
+        ensures moves { cursor.new ≡ at_mark cursor.old (mark_of cursor.new) }
+        ensures cause { ReadCause (S.faults shelf.old) (S.faults shelf.new) result }
+        ensures kept { Keeps (S.files shelf.old) (S.files shelf.new) (S.opened shelf.old) (S.opened shelf.new) (S.reach shelf.old) (S.reach shelf.new) }
+        ensures reach { OfFilm (content (S.files shelf.old) (S.opened shelf.old) (file_of cursor.old)) cursor.old self.old (λ octets. SwitchReads (plan_for octets cursor.old) added lead at (S.reach shelf.old) (S.reach shelf.new)) }
+    {
+        let video = self.near(cursor, shelf, added.video, at)?;
+        let audio = self.near(cursor, shelf, added.audio, at)?;
+        let leading = self.near(cursor, shelf, needed_lead(added.sub, lead), at)?;
+        Ok(switch_starts(added, at, video, audio, leading))
+    }
+}

@@ -1,7 +1,7 @@
 -- What is told of a range's queues, and that it stands by rising track.
 use Rattle.std.proofs.Common.{◌≡◌, ℕ, zero, suc, ◌+◌, ◌==◌, ◌<◌, ◌≤◌, Bool, true, false, List, [], ◌∷◌, ◌++◌, length, take, get_or, Option, Some, None, refl, ap, sym, ◌∙◌, arith, inl, inr}
 use Rattle.std.specs.Prelude.{if◌then◌else◌, nat_le, option_to_list}
-use Rattle.std.proofs.lemmas.Bool.{cases_Bool, leb-true, leb-false, le-leb, eqb-true}
+use Rattle.std.proofs.lemmas.Bool.{cases_Bool, leb-true, leb-false, le-leb, ne_eqb}
 use Rattle.std.proofs.lemmas.List.{append_assoc, append-nil}
 use Rattle.mc_packet.specs.declared.choice.Choice.{Choice}
 use Rattle.mc_packet.specs.declared.packet.Packet.{Packet}
@@ -65,7 +65,7 @@ told_one qs cause stays q e = elim (cases_Bool (is_track stays q.track)) [
   where
     by_packets : (ps : List Packet) → option_to_list (if length ps == 0 then None else Some (record { track = q.track; from = q.from; to = q.to; cause = cause })) ≡ removal_if cause q.track q.from q.to ps
     by_packets [] = refl
-    by_packets (p ∷ ps) = refl
+    by_packets (p ∷ ps) = let n : (length (p ∷ ps) == 0) ≡ false = ne_eqb (length (p ∷ ps)) 0 (λ z. absurd (omega arith)) in rw n refl
 
 told_kind : (qs : Queues) (mark : Mark) (cause : Cause) (track stays : Option ℕ) (q : Option QueueState) → QueueIn track mark q → ((k : ℕ) → track ≡ Some k → queue_of k qs ≡ q)
     → option_to_list (told_if qs cause track (interval_of q) stays) ≡ removal_in cause (lost_queue stays q)
@@ -111,4 +111,4 @@ all_lost qs =
 pub next_range : (cause : Cause) (rs : List RangeState) (i : ℕ) (d : RangeState) → i < length rs → removals_of_all cause (take (i + 1) rs) ≡ removals_of_all cause (take i rs) ++ removals_of cause (get_or rs i d)
 next_range cause [] i d l = absurd (omega arith)
 next_range cause (r ∷ rs) zero d l = append-nil (removals_of cause r)
-next_range cause (r ∷ rs) (suc i) d l = ap (λ ds. removals_of cause r ++ ds) (next_range cause rs i d (omega arith)) ∙ sym (append_assoc (removals_of cause r) (removals_of_all cause (take i rs)) (removals_of cause (get_or rs i d)))
+next_range cause (r ∷ rs) (suc i) d l = let e : suc i + 1 ≡ suc (i + 1) = omega arith in rw e (ap (λ ds. removals_of cause r ++ ds) (next_range cause rs i d (omega arith)) ∙ sym (append_assoc (removals_of cause r) (removals_of_all cause (take i rs)) (removals_of cause (get_or rs i d))))

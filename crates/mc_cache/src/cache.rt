@@ -242,4 +242,87 @@ impl Cache {
     {
         count_in(&self.current) + count_all(self.others.as_slice())
     }
+
+    /// Makes a new range of a set the current one, which begins at its starts, and gives what is told
+    /// of the range that goes for it where eleven would stand. The one that was current stands in front
+    /// of the others then, unless it holds no packet. `NoMemory` comes only without the room that
+    /// `make_room_to_start` makes; the ranges are then as they were.
+    pub fn start_range(&mut self, set: Choice, starts: &Starts) -> Result<Drops, NoMemory>
+        requires distinct { is_distinct set ≡ true }
+        requires video { AtMark starts.now.mark.pos starts.now.video }
+        requires audio { AtMark starts.now.mark.pos starts.now.audio }
+        requires sub { AtMark starts.now.mark.pos starts.now.sub }
+        ensures ok { IfOk result (λ drops. IsStarted set starts.now drops self.old self.new) }
+        ensures room { OnOk result (IsPrepared set starts.now self.old → HasRoomToJoin self.new) }
+        ensures err { OnErr result (IsSameButRoom self.old self.new) }
+        ensures within { OnErr result (HasRoomToStart self.old → ⊥) }
+        ensures cache { IsCache self.new }
+    {
+        self.reserve_to_start()?;
+        let range = self.take_ready(set, starts);
+        self.leave_current();
+        let drops = self.drop_eleventh();
+        self.put_current(range);
+        Ok(drops)
+    }
+
+    /// Selects other tracks: the current range keeps the queues of tracks that stay under their kind,
+    /// and all other ranges go; without any track no range stays. Gives what is told of the packets
+    /// that go. `NoMemory` leaves all as it was.
+    pub fn retrack(&mut self, set: Choice) -> Result<Drops, NoMemory>
+        requires distinct { is_distinct set ≡ true }
+        ensures ok { IfOk result (λ drops. IsRetracked set drops self.old self.new) }
+        ensures err { OnErr result (self.new ≡ self.old) }
+        ensures cache { IsCache self.new }
+    {
+        let mut drops = Vec::with_capacity(self.alloc, 30)?;
+        tell_lost(&mut drops, &self.current, set);
+        push_ranges(&mut drops, self.others.as_slice(), Cause::TrackChanged);
+        self.others.clear();
+        reselect(&mut self.current, set);
+        Ok(Drops::from_vec(drops))
+    }
+
+    /// Joins the current range with each other one that touches it, in order of last use, as long as
+    /// one does. One whose packets differ from the current range's goes instead, and is told of.
+    /// `NoMemory` comes only without the room that `make_room_to_start` and `make_room_to_feed` make;
+    /// the ranges are then as they were.
+    pub fn join_current(&mut self) -> Result<Joins, NoMemory>
+        ensures ok { IfOk result (λ j. IsJoinedUp j.joined j.dropped self.old self.new) }
+        ensures err { OnErr result (IsSameButRoom self.old self.new) }
+        ensures within { OnErr result (HasRoomToJoin self.old → ⊥) }
+        ensures cache { IsCache self.new }
+    {
+        if !touches_any(&self.current, self.others.as_slice()) {
+            let dropped = Drops::new(self.alloc);
+            return Ok(Joins { joined: 0, dropped });
+        }
+        self.reserve_to_join()?;
+        let mut dropped = replace(&mut self.join_drops, Vec::new(self.alloc));
+        dropped.clear();
+        let joined = join_others(&mut self.current, &mut self.others, &mut dropped);
+        let dropped = Drops::from_vec(dropped);
+        Ok(Joins { joined, dropped })
+    }
+
+    /// Makes the one next drop that the limit on octets behind the readers asks for: in the last of
+    /// the other ranges, else in the current one, of no packet at its head or behind it. `None` exactly
+    /// where those octets are within the limit; nothing has changed then. It takes no memory.
+    pub fn prune(&mut self, heads: &Heads) -> Option<Removal>
+        ensures value { Prunes heads.now result self.old self.new }
+        ensures cache { IsCache self.new }
+    {
+        self.look_from(heads);
+        let (back, max) = (self.back(heads), self.limits.back);
+        if back <= max {
+            return None;
+        }
+        let cut = self.cut(heads)?;
+        Some(Removal {
+            track: cut.track,
+            from: cut.from,
+            to: cut.to,
+            cause: Cause::Limit { back, max },
+        })
+    }
 }

@@ -1,6 +1,6 @@
 -- Lists of ranges: their numbers, the first that passes, and those that are left without it.
 use Rattle.std.proofs.Common.{◌≡◌, ℕ, zero, suc, ◌+◌, ◌-◌, ◌*◌, ◌^◌, ◌<◌, ◌≤◌, Bool, true, false, List, [], ◌∷◌, length, take, drop, get_or, Option, Some, None, arith, refl, ap, sym, ◌∙◌, inl, inr, nat_lt, not, cond}
-use Rattle.std.specs.Prelude.{if◌then◌else◌}
+use Rattle.std.specs.Prelude.{if◌then◌else◌, is_some}
 use Rattle.std.specs.List.{AllByRecursion, filter, find, remove, slice_get, sum_by, position, position_or_len, list_any}
 use Rattle.std.proofs.lemmas.Bool.{cases_Bool, lt-ltb, ltb-true, ltb-false}
 use Rattle.std.proofs.lemmas.List.Folds.{find_at}
@@ -139,6 +139,29 @@ found_passes test (q ∷ rs) r e = elim (cases_Bool (test q)) [
   where
     some : (a b : RangeState) → Some a ≡ Some b → a ≡ b
     some a b e = cc
+
+any_found : (test : RangeState → Bool) (rs : List RangeState) (r : RangeState) → find test rs ≡ Some r → list_any test rs ≡ true
+any_found test [] r e = absurd (cc)
+any_found test (q ∷ rs) r e = elim (cases_Bool (test q)) [
+  | inl y ↦ rw y refl
+  | inr n ↦ let z : find test rs ≡ Some r = rw n at e in rw n (any_found test rs r z)
+]
+
+get_some : (rs : List RangeState) (i : ℕ) → i < length rs → (r : RangeState) × (slice_get rs i ≡ Some r)
+get_some [] i l = absurd (omega arith)
+get_some (r ∷ rs) zero l = (r, refl)
+get_some (r ∷ rs) (suc i) l = get_some rs i (omega arith)
+
+any_by : (test : RangeState → Bool) (rs : List RangeState) (o : Option ℕ) → position test rs ≡ o → is_some (position test rs) ≡ list_any test rs
+any_by test rs None e = let p = passed test rs e in let n = p.no_one in rw (e, n) refl
+any_by test rs (Some i) e =
+    let t = taken test rs i e in
+    let g = get_some rs i t.within in
+    let y = any_found test rs g.0 (t.found ∙ g.1) in
+    rw (e, y) refl
+
+pub any_place : (test : RangeState → Bool) (rs : List RangeState) → is_some (position test rs) ≡ list_any test rs
+any_place test rs = any_by test rs (position test rs) refl
 
 -- ---- those that are left
 

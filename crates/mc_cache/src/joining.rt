@@ -1,6 +1,6 @@
-ghost use Rattle.std.specs.Prelude.{◌≡◌, ◌+◌, ◌*◌, ◌≤◌, ◌<◌, ◌^◌, [], false, true, length, vec_capacity, vec_len, IfSome};
+ghost use Rattle.std.specs.Prelude.{◌≡◌, ◌+◌, ◌*◌, ◌≤◌, ◌<◌, ◌^◌, List, [], ◌∷◌, false, true, length, vec_capacity, vec_len};
 ghost use Rattle.std.specs.List.{AllByRecursion};
-ghost use Rattle.mc_range.specs.Range.{IsRange, IsRoomier, meets_range};
+ghost use Rattle.mc_range.specs.Range.{IsRange, RangeState, meets_range};
 ghost use Rattle.mc_cache.specs.Cache.{IsOther, weight_in, weight_of};
 ghost use Rattle.mc_cache.specs.Joining.{JoinsOne, Joins};
 ghost use Rattle.mc_cache.specs.Rooms.{HasRoomFor, meets_any};
@@ -11,7 +11,7 @@ use mc_journal::{Cause, Removal};
 use mc_range::{Range, UnionError};
 
 /// Joins a range with one that touches it, or tells that they differ. Gives whether they were joined.
-#[tactic(auto, using(crate::proofs::Joined::never_lacks))]
+#[tactic(auto, using(crate::proofs::United::never_lacks, crate::proofs::United::weighs, crate::proofs::United::room_left, crate::proofs::Spare::room_kept))]
 fn join_one(range: &mut Range, mut other: Range, drops: &mut Vec<Removal>) -> bool
     requires touch { meets_range range.old other ≡ true }
     requires fits { weight_in range.old + weight_in other < 2 ^ 64 }
@@ -19,9 +19,12 @@ fn join_one(range: &mut Range, mut other: Range, drops: &mut Vec<Removal>) -> bo
     requires room { vec_len drops.old + 3 ≤ vec_capacity drops.old }
     ensures value { JoinsOne range.old other result range.new drops.old.items drops.new.items }
     ensures range { IsRange range.new }
+    ensures weight { weight_in range.new ≤ weight_in range.old + weight_in other }
+    ensures space { (rs : List RangeState) → HasRoomFor (other ∷ rs) 0 range.old → HasRoomFor rs 0 range.new }
     ensures few { vec_len drops.new ≤ vec_len drops.old + 3 }
     ensures kept { vec_capacity drops.old ≤ vec_capacity drops.new }
 {
+    let _marks = (range.mark(), other.mark());
     match range.join(&mut other) {
         Ok(()) => true,
         Err(UnionError::Mismatch {

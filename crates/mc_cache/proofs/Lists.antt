@@ -130,6 +130,21 @@ unfound test (r ∷ rs) e = elim (cases_Bool (test r)) [
   | inr n ↦ let z : find test rs ≡ None = rw n at e in rw n (ap (λ xs. r ∷ xs) (unfound test rs z))
 ]
 
+pub none_passes : (test : RangeState → Bool) (rs : List RangeState) → find test rs ≡ None → list_any test rs ≡ false
+none_passes test [] e = refl
+none_passes test (r ∷ rs) e = elim (cases_Bool (test r)) [
+  | inl y ↦ let z = rw y at e in absurd (cc)
+  | inr n ↦ let z : find test rs ≡ None = rw n at e in rw n (none_passes test rs z)
+]
+
+pub others_few : (c : Option RangeState) (rs : List RangeState) (n : ℕ) → length (in_front c rs) ≤ n → length rs ≤ n
+others_few None rs n l = l
+others_few (Some r) rs n l = omega arith
+
+pub others_light : (c : Option RangeState) (rs : List RangeState) (n : ℕ) → weight_of (in_front c rs) < n → weight_of rs < n
+others_light None rs n l = l
+others_light (Some r) rs n l = omega arith
+
 pub found_passes : (test : RangeState → Bool) (rs : List RangeState) (r : RangeState) → find test rs ≡ Some r → test r ≡ true
 found_passes test [] r e = absurd (cc)
 found_passes test (q ∷ rs) r e = elim (cases_Bool (test q)) [

@@ -1,6 +1,6 @@
 -- A join within its room: it can't be refused, and what it leaves.
 use Rattle.std.proofs.Common.{◌≡◌, ℕ, zero, suc, ◌+◌, ◌*◌, ◌^◌, ◌<◌, ◌≤◌, Bool, true, false, ◌||◌, List, [], ◌∷◌, ◌++◌, length, Option, Some, None, refl, ap, sym, ◌∙◌, arith, inl, inr}
-use Rattle.std.specs.Prelude.{IfSome, IsSomeAnd, nat_le, nat_lt}
+use Rattle.std.specs.Prelude.{IfSome, IsSomeAnd, if◌then◌else◌, nat_le, nat_lt}
 use Rattle.std.specs.List.{find}
 use Rattle.std.proofs.lemmas.Bool.{cases_Bool, leb-true, leb-false, ltb-true, ltb-false, le-ltb, and_parts}
 use Rattle.std.proofs.lemmas.List.Sums.{sum_by-cons}
@@ -9,16 +9,18 @@ use Rattle.mc_packet.specs.declared.packet.Packet.{Packet}
 use Rattle.mc_packet.specs.declared.walk.Mark.{Mark}
 use Rattle.mc_journal.specs.Films.{rank}
 use Rattle.mc_journal.specs.Ranges.{touches}
+use Rattle.mc_journal.specs.declared.record.Removal.{Removal}
 use Rattle.mc_queue.specs.declared.queue.UnionError.TheVariants.{NoMemory}
 use Rattle.mc_queue.specs.Places.{Rise, before, from_place, is_before, is_from, place, weight_of as weight_of_packet, weights}
 use Rattle.mc_queue.specs.Queue.{QueueState, IsQueue}
 use Rattle.mc_queue.specs.Union.{added, united, in_front, behind_all}
 use Rattle.mc_queue.proofs.Rising.{weights_of_two}
 use Rattle.mc_range.specs.declared.queues.Queues.{Queues}
-use Rattle.mc_range.specs.Range.{RangeState, QueueIn, IsRange, as_range, count, is_same, is_same_set, meets_range, queue_of, weight_in as weight_of_queue}
+use Rattle.mc_range.specs.Range.{RangeState, QueueIn, IsRange, IsRoomier, Roomier, as_range, count, is_same, is_same_set, meets_range, queue_of, weight_in as weight_of_queue}
 use Rattle.mc_range.specs.Joining.{IsJoined, IsUnion, JoinRefused, UnitesIn, lacks_any, lacks_for}
 use Rattle.mc_range.proofs.Unions.{video_is, audio_is, sub_is, same_some}
 use Rattle.mc_cache.specs.Cache.{IsOther, weight_in, without_first}
+use Rattle.mc_cache.specs.Joining.{Joins, JoinsOne, neighbour, others_left, parted, united as joins_united}
 use Rattle.mc_cache.specs.Rooms.{HasRoomFor, HasSpareFor, count_at, count_at_all}
 
 -- ---- what one takes from the other
@@ -182,3 +184,46 @@ moved_room test rs o r n e h = record {
   audio = moved_for test rs o r n r.set.audio e h.audio;
   sub = moved_for test rs o r n r.set.sub e h.sub;
 }
+
+-- ---- where nothing is joined
+
+less_for : (o : RangeState) (rs : List RangeState) (n : ℕ) (r : RangeState) (track : Option ℕ) → HasSpareFor (o ∷ rs) n r.queues track → HasSpareFor rs n r.queues track
+less_for o rs n r None h = tt
+less_for o rs n r (Some k) h = by_queue (queue_of k r.queues) h
+  where
+    by_queue : (q : Option QueueState) → IfSome q (λ x. n + count_at_all k (o ∷ rs) ≤ x.spare) → IfSome q (λ x. n + count_at_all k rs ≤ x.spare)
+    by_queue None h = tt
+    by_queue (Some q) h = omega arith
+
+pub less_room : (o : RangeState) (rs : List RangeState) (n : ℕ) (r : RangeState) → HasRoomFor (o ∷ rs) n r → HasRoomFor rs n r
+less_room o rs n r h = record { video = less_for o rs n r r.set.video h.video; audio = less_for o rs n r r.set.audio h.audio; sub = less_for o rs n r r.set.sub h.sub }
+
+roomier_weight : (q n : Option QueueState) → Roomier q n → weight_of_queue n ≡ weight_of_queue q
+roomier_weight None n r = rw r refl
+roomier_weight (Some q) None r = absurd r
+roomier_weight (Some q) (Some n) r = ap (λ (x : QueueState). weights x.packets) r.0
+
+pub roomier_weighs : (r q : RangeState) → IsRoomier r q → weight_in q ≡ weight_in r
+roomier_weighs r q i =
+    let v = roomier_weight r.queues.video q.queues.video i.queues.video in
+    let a = roomier_weight r.queues.audio q.queues.audio i.queues.audio in
+    let s = roomier_weight r.queues.sub q.queues.sub i.queues.sub in
+    omega arith
+
+-- ---- one more join
+
+pub next_join : (first : RangeState) (beside : List RangeState) (r : RangeState) (rs : List RangeState) (n m : ℕ) (drops more : List Removal) (o r' : RangeState) (b : Bool) (left : List RangeState)
+    → Joins first beside r rs n drops → Some o ≡ neighbour r rs → left ≡ others_left r rs → JoinsOne r o b r' drops more → m ≡ n + (if b then 1 else 0) → Joins first beside r' left m more
+next_join first beside r rs n m drops more o r' true left j e l u z = rw (z, l, u.2) (joins_united r rs n drops o r' u.0 j (sym e) u.1)
+next_join first beside r rs n m drops more o r' false left j e l u z = let k : m ≡ n = omega arith in rw (k, l, u.5) (parted r rs n drops o r' u.0 u.1 u.2 j (sym e) u.3 u.4)
+
+only_for : (o : RangeState) (rs : List RangeState) (n : ℕ) (r : RangeState) (track : Option ℕ) → HasSpareFor (o ∷ rs) n r.queues track → HasSpareFor (o ∷ []) n r.queues track
+only_for o rs n r None h = tt
+only_for o rs n r (Some k) h = by_queue (queue_of k r.queues) h
+  where
+    by_queue : (q : Option QueueState) → IfSome q (λ x. n + count_at_all k (o ∷ rs) ≤ x.spare) → IfSome q (λ x. n + count_at_all k (o ∷ []) ≤ x.spare)
+    by_queue None h = tt
+    by_queue (Some q) h = omega arith
+
+pub only_room : (o : RangeState) (rs : List RangeState) (n : ℕ) (r : RangeState) → HasRoomFor (o ∷ rs) n r → HasRoomFor (o ∷ []) n r
+only_room o rs n r h = record { video = only_for o rs n r r.set.video h.video; audio = only_for o rs n r r.set.audio h.audio; sub = only_for o rs n r r.set.sub h.sub }

@@ -143,3 +143,35 @@ joins_none (Some r) rs e = (unjoined, e)
 
 pub not_joined : (st : CacheState) → meets_in st.current st.others ≡ false → IsJoinedUp 0 [] st st
 not_joined st e = record { roomy = st; room = same_room st; joins = joins_none st.current st.others e; limits_is = refl }
+
+-- ---- held ready
+
+pub may_take : (d : ℕ) (rs : List RangeState) (r : RangeState) → 30 ≤ d → HasRoomFor rs 0 r → MayTake d rs r
+may_take d rs r l h = λ y. (l, h)
+
+pub never_takes : (d : ℕ) (rs : List RangeState) (r : RangeState) → meets_any r rs ≡ false → MayTake d rs r
+never_takes d rs r n = λ y. absurd (cc)
+
+start_kept : (track start : Option ℕ) (q n : Option QueueState) → StartsAt track start q → Roomier q n → StartsAt track start n
+start_kept None start q n s r = let e : q ≡ None = s in let z = rw e at r in z
+start_kept (Some k) None q n s r = let e : q ≡ None = s in let z = rw e at r in z
+start_kept (Some k) (Some at) None n s r = absurd s
+start_kept (Some k) (Some at) (Some q) None s r = absurd r
+start_kept (Some k) (Some at) (Some q) (Some n) s r =
+    let e = r.0 in
+    record {
+      track_is = ap (λ (x : QueueState). x.track) e ∙ s.track_is;
+      from_is = ap (λ (x : QueueState). x.from) e ∙ s.from_is;
+      to_is = ap (λ (x : QueueState). x.to) e ∙ s.to_is;
+      none_yet = ap (λ (x : QueueState). x.packets) e ∙ s.none_yet;
+    }
+
+pub begun_kept : (set : Choice) (starts : Starts) (r q : RangeState) → IsBegun set starts r → IsRoomier r q → IsBegun set starts q
+begun_kept set starts r q b i = record {
+  set_is = i.set_is ∙ b.set_is;
+  video = start_kept set.video starts.video r.queues.video q.queues.video b.video i.queues.video;
+  audio = start_kept set.audio starts.audio r.queues.audio q.queues.audio b.audio i.queues.audio;
+  sub = start_kept set.sub starts.sub r.queues.sub q.queues.sub b.sub i.queues.sub;
+  mark_is = i.mark_is ∙ b.mark_is;
+  no_ending = i.ending_is ∙ b.no_ending;
+}

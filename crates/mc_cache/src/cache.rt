@@ -9,6 +9,7 @@ ghost use Rattle.std.specs.Prelude.{drop};
 ghost use Rattle.mc_journal.specs.declared.record.Cause.TheVariants.{TooMany};
 ghost use Rattle.mc_cache.specs.Joining.{IsJoinedUp};
 ghost use Rattle.mc_cache.specs.Pruning.{Prunes, ahead_in, back_of};
+ghost use Rattle.mc_cache.specs.Shown.{view_of};
 ghost use Rattle.mc_cache.specs.Removals.{removals_of_all};
 ghost use Rattle.mc_cache.specs.Rooms.{HasRoomFor, HasRoomToJoin, HasRoomToStart, IsPrepared};
 ghost use Rattle.mc_cache.specs.Changing.{AddsTrack, Feeds, IsChosen, IsLeft, IsNew, IsRetracked, IsOnlyRoomier, IsSameButRoom, IsStarted, KeepsNine, MayAdd, heads_in, server, serves};
@@ -17,9 +18,10 @@ use crate::listing::{count_all, holds, take_serving, weight_all};
 use crate::parts::{ahead_in, cut_next, join_others, keep_nine, look_in, reselect, tell_lost, weight_in};
 use crate::prepared::{Prepared, take_if};
 use crate::removals::{Drops, push_ranges};
-use crate::rooms::{reserve_in, touches_any};
+use crate::rooms::{make_ready, reserve_in, touches_any};
+use crate::views::{begins_in, show_all};
 use mc_journal::{Cause, Removal};
-use mc_packet::{Choice, Chunk, Dir, Ending, Heads, Kind, Limits, Mark, NoMemory, Starts, TrackNo};
+use mc_packet::{CacheView, Choice, Chunk, Dir, Ending, Heads, Kind, Limits, Mark, NoMemory, Starts, TrackNo};
 use mc_range::Range;
 use std::alloc::Global;
 use std::marker::Model;
@@ -309,6 +311,31 @@ impl Cache {
         Drops::from_vec(drops)
     }
 
+    /// Makes room for a start of this set, and for the joins after it: a range is held ready that has
+    /// room for the packets of all ranges, where one of them touches it. Only the room changes.
+    pub fn make_room_to_start(&mut self, set: Choice, starts: &Starts) -> Result<(), NoMemory>
+        requires distinct { is_distinct set ≡ true }
+        requires video { AtMark starts.now.mark.pos starts.now.video }
+        requires audio { AtMark starts.now.mark.pos starts.now.audio }
+        requires sub { AtMark starts.now.mark.pos starts.now.sub }
+        ensures same { IsSameButRoom self.old self.new }
+        ensures ok { OnOk result (HasRoomToStart self.new) }
+        ensures joins { OnOk result (IsPrepared set starts.now self.new) }
+        ensures cache { IsCache self.new }
+    {
+        self.reserve_to_start()?;
+        let ready = make_ready(
+            self.alloc,
+            set,
+            starts,
+            &self.current,
+            self.others.as_slice(),
+            &mut self.join_drops,
+        )?;
+        self.prepared = Some(ready);
+        Ok(())
+    }
+
     /// Makes a new range of a set the current one, which begins at its starts, and gives what is told
     /// of the range that goes for it where eleven would stand. The one that was current stands in front
     /// of the others then, unless it holds no packet. `NoMemory` comes only without the room that
@@ -433,6 +460,25 @@ impl Cache {
             from: cut.from,
             to: cut.to,
             cause: Cause::Limit { back, max },
+        })
+    }
+
+    /// What the cache tells of itself: its ranges in order of last use with the times between which
+    /// they serve, the octets ahead of these heads and behind them, and whether the current range begins
+    /// where the film does. Its `time` is none, and `playing` and `ended` are false.
+    pub fn view(&self, heads: &Heads) -> Result<CacheView, NoMemory>
+        ensures value { IfOk result (λ v. v ≡ view_of heads.now self.now) }
+        ensures cache { IsCache self.now }
+    {
+        Ok(CacheView {
+            ranges: show_all(self.alloc, &self.current, self.others.as_slice())?,
+            forward: self.forward(heads),
+            back: self.back(heads),
+            bof: begins_in(&self.current),
+            ending: self.ending(),
+            time: None,
+            playing: false,
+            ended: false,
         })
     }
 }

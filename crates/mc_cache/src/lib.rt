@@ -8,12 +8,15 @@
 mod cache;
 mod joining;
 mod listing;
+mod law;
 mod parts;
 mod prepared;
 mod removals;
 mod rooms;
+mod views;
 
 pub use cache::{Cache, Joins};
+pub use law::{chosen_films, fed_films, left_films, started_films};
 pub use mc_journal::{Cause, Removal};
 pub use mc_packet::NoMemory;
 pub use removals::Drops;

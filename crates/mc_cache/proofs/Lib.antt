@@ -9,3 +9,4 @@ pub mod Pruned
 pub mod Started
 pub mod Shows
 pub mod Standing
+pub mod Feeding

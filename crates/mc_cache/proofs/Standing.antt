@@ -13,22 +13,24 @@ use Rattle.mc_packet.specs.declared.walk.Chunk.{Chunk}
 use Rattle.mc_packet.specs.declared.walk.Mark.{Mark}
 use Rattle.mc_journal.specs.declared.record.Removal.{Removal}
 use Rattle.mc_journal.specs.Told.{Told, told}
-use Rattle.mc_journal.specs.Choices.{is_distinct, passes}
+use Rattle.mc_journal.specs.Choices.{is_distinct, is_empty, passes}
 use Rattle.mc_journal.specs.Films.{IsRising, first}
 use Rattle.mc_journal.specs.Ranges.{Range, held, serves as film_serves}
-use Rattle.mc_journal.specs.Stands.{Stand, chosen, fed, fed_range, first_that, found_with, holds_any, left, new_range, ranges_of as stand_ranges, tidied, without_first as stand_without}
+use Rattle.mc_journal.specs.Stands.{Stand, chosen, fed, fed_range, first_that, found_with, holds_any, keep_tracks, left, new_range, switched, ranges_of as stand_ranges, tidied, without_first as stand_without}
 use Rattle.mc_range.specs.declared.queues.Queues.{Queues}
 use Rattle.mc_queue.specs.Queue.{QueueState}
 use Rattle.mc_range.specs.Range.{RangeState, IsBegun, IsRange, QueueIn, as_range, count, queue_of}
 use Rattle.mc_range.specs.Serving.{HoldsFilm, packets_in}
 use Rattle.mc_range.specs.Growing.{IsFed}
-use Rattle.mc_range.specs.Filmed.{IsPart}
+use Rattle.mc_range.specs.Filmed.{IsPart, same_kinds}
 use Rattle.mc_range.proofs.Films.{film_served}
 use Rattle.mc_range.proofs.Chosen.{begun_ranges, begun_film}
 use Rattle.mc_range.proofs.Fed.{fed_ranges, fed_film}
+use Rattle.mc_range.proofs.Retracked.{kept_ranges, kept_film}
+use Rattle.mc_range.specs.Tracks.{retracked}
 use Rattle.mc_range.proofs.Unions.{video_is, audio_is, sub_is}
 use Rattle.mc_cache.specs.Cache.{CacheState, IsCache, IsOther, holds, in_front, left_with, ranges_of, stand_of, without_first}
-use Rattle.mc_cache.specs.Changing.{Feeds, IsChosen, IsLeft, IsStarted, serves, server}
+use Rattle.mc_cache.specs.Changing.{Feeds, IsChosen, IsLeft, IsRetracked, IsStarted, serves, server}
 use Rattle.mc_cache.specs.Filmed.{HoldsAll, HoldsIn}
 use Rattle.mc_cache.proofs.Lists.{all_held}
 
@@ -251,3 +253,42 @@ pub fed_holds : (ps : List Told) (set : Choice) (chunk : Chunk) (old new : Cache
 fed_holds ps set chunk old new r p i m h f =
     let o = f.others_is in
     record { current = fed_holds_in ps set chunk old.current new.current r p m i.current h.current f.current; others = rw o h.others }
+
+-- ---- other tracks
+
+switched_is : (set next : Choice) (c : Option RangeState) → IfSome c IsRange → IfSome c (λ r. r.set ≡ set) → same_kinds set next ≡ true
+    → option_map as_range (option_map (retracked next) c) ≡ option_map (keep_tracks next) (option_map as_range c)
+switched_is set next None i e k = refl
+switched_is set next (Some r) i e k = ap (λ x. Some x) (kept_ranges next r i (rw e k))
+
+empty_is : (b : Bool) (c : Option RangeState) → option_map as_range (if b then None else c) ≡ (if b then None else option_map as_range c)
+empty_is true c = refl
+empty_is false c = refl
+
+sets_of : (ps : List Told) (set : Choice) (c : Option RangeState) → IfSome c (HoldsIn ps set) → IfSome c (λ r. r.set ≡ set)
+sets_of ps set None h = tt
+sets_of ps set (Some r) h = h.set_is
+
+pub switched_stand : (ps : List Told) (set next : Choice) (drops : List Removal) (old new : CacheState) → IsCache old → HoldsAll ps set old → same_kinds set next ≡ true → IsRetracked next drops old new → stand_of new ≡ switched next (stand_of old)
+switched_stand ps set next drops old new i h k r =
+    let e = switched_is set next old.current i.current (sets_of ps set old.current h.current) k in
+    stand_is (option_map as_range new.current) (if is_empty next then None else option_map (keep_tracks next) (option_map as_range old.current)) (map as_range new.others) []
+      (ap (λ c. option_map as_range c) r.current_is ∙ empty_is (is_empty next) (option_map (retracked next) old.current) ∙ ap (λ c. if is_empty next then None else c) e)
+      (ap (λ rs. map as_range rs) r.no_others)
+
+kept_holds : (ps : List Told) (set next : Choice) (c : Option RangeState) → IfSome c IsRange → IfSome c (HoldsIn ps set) → same_kinds set next ≡ true → IfSome (option_map (retracked next) c) (HoldsIn ps next)
+kept_holds ps set next None i h k = tt
+kept_holds ps set next (Some r) i h k = let e = h.set_is in record { film = kept_film ps next r i (rw e k) h.film; set_is = refl }
+
+if_holds : (ps : List Told) (set : Choice) (b : Bool) (c : Option RangeState) → IfSome c (HoldsIn ps set) → IfSome (if b then None else c) (HoldsIn ps set)
+if_holds ps set true c h = tt
+if_holds ps set false c h = h
+
+pub switched_holds : (ps : List Told) (set next : Choice) (drops : List Removal) (old new : CacheState) → IsCache old → HoldsAll ps set old → same_kinds set next ≡ true → IsRetracked next drops old new → HoldsAll ps next new
+switched_holds ps set next drops old new i h k r =
+    let e = r.current_is in
+    let o = r.no_others in
+    record {
+      current = rw e (if_holds ps next (is_empty next) (option_map (retracked next) old.current) (kept_holds ps set next old.current i.current h.current k));
+      others = rw o tt;
+    }

@@ -11,11 +11,11 @@ ghost use Rattle.mc_journal.specs.Told.{Told};
 ghost use Rattle.mc_journal.specs.Choices.{is_distinct};
 ghost use Rattle.mc_journal.specs.Films.{IsRising};
 ghost use Rattle.mc_journal.specs.Ranges.{serves};
-ghost use Rattle.mc_journal.specs.Stands.{chosen, fed, first_that, found_with, left, ranges_of, tidied};
+ghost use Rattle.mc_journal.specs.Stands.{chosen, fed, first_that, found_with, left, ranges_of, switched, tidied};
 ghost use Rattle.mc_range.specs.Range.{as_range};
-ghost use Rattle.mc_range.specs.Filmed.{IsPart};
+ghost use Rattle.mc_range.specs.Filmed.{IsPart, same_kinds};
 ghost use Rattle.mc_cache.specs.Cache.{CacheState, IsCache, stand_of};
-ghost use Rattle.mc_cache.specs.Changing.{Feeds, IsChosen, IsLeft, IsStarted, server};
+ghost use Rattle.mc_cache.specs.Changing.{Feeds, IsChosen, IsLeft, IsRetracked, IsStarted, server};
 ghost use Rattle.mc_cache.specs.Filmed.{HoldsAll};
 
 /// The range that a seek makes current is the first that serves it, as the rule over the film's list
@@ -46,4 +46,12 @@ pub fn started_films()
 pub fn fed_films()
     ensures stand { (chunk : Chunk) (old new : CacheState) → Feeds chunk old new → stand_of new ≡ fed chunk.to.pos chunk.ending (stand_of old) }
     ensures film { (ps : List Told) (set : Choice) (chunk : Chunk) (old new : CacheState) → IsRising ps → IsPart ps chunk → IsCache old → IsSomeAnd old.current (λ r. chunk.from ≡ r.mark) → HoldsAll ps set old → Feeds chunk old new → HoldsAll ps set new }
+{}
+
+/// Where no track changes its kind, the current range keeps its spans of the tracks that stay, and no
+/// other range stands.
+#[tactic(auto, using(crate::proofs::Standing::switched_stand, crate::proofs::Standing::switched_holds))]
+pub fn switched_films()
+    ensures stand { (ps : List Told) (set next : Choice) (drops : List Removal) (old new : CacheState) → IsCache old → HoldsAll ps set old → same_kinds set next ≡ true → IsRetracked next drops old new → stand_of new ≡ switched next (stand_of old) }
+    ensures film { (ps : List Told) (set next : Choice) (drops : List Removal) (old new : CacheState) → IsCache old → HoldsAll ps set old → same_kinds set next ≡ true → IsRetracked next drops old new → HoldsAll ps next new }
 {}

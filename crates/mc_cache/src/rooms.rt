@@ -1,15 +1,16 @@
-ghost use Rattle.std.specs.Prelude.{◌≡◌, ◌≤◌, ◌<◌, ◌+◌, ◌^◌, true, [], vec_capacity, IfOk, IfSome, OnErr, OnOk};
+ghost use Rattle.std.specs.Prelude.{◌≡◌, ◌≤◌, ◌<◌, ◌+◌, ◌^◌, true, [], vec_capacity, IfOk, IfSome, OnErr, OnOk, position};
 ghost use Rattle.mc_range.specs.Range.{AtMark, IsRange, IsRoomier};
 ghost use Rattle.mc_journal.specs.Choices.{is_distinct};
 ghost use Rattle.mc_cache.specs.Cache.{IsReady, in_front, weight_of};
 ghost use Rattle.mc_cache.specs.Changing.{RoomierIn};
-ghost use Rattle.mc_cache.specs.Rooms.{HasRoomFor, HasSpareFor, MayTake, count_at_all, meets_any, meets_in};
+ghost use Rattle.mc_cache.specs.Rooms.{HasRoomFor, HasSpareFor, MayTake, count_at_all, longer, longer_spans, meets_any, meets_in, meets_then, meets_then_in};
 
 use crate::listing::first_touching;
-use crate::prepared::Prepared;
+use crate::prepared::{Prepared, is_same_set};
 use mc_journal::Removal;
-use mc_packet::{Choice, NoMemory, Starts, TrackNo};
-use mc_range::Range;
+use mc_packet::{Choice, NoMemory, Pos, Spans, Starts, TrackNo};
+use mc_queue::later;
+use mc_range::{Range, spans_touch};
 use std::alloc::Global;
 
 /// Whether another range touches this one, if there is one.
@@ -116,6 +117,51 @@ pub(crate) fn reserve_in(
     match range {
         Some(range) => reserve_for(range, &None, others, more),
         None => Ok(()),
+    }
+}
+
+// ---- what will be touched
+
+fn longer(upto: Pos, span: Option<(Pos, Pos)>) -> Option<(Pos, Pos)>
+    ensures { result ≡ longer upto span }
+{
+    match span {
+        Some((from, to)) => Some((from, later(to, upto))),
+        None => None,
+    }
+}
+
+fn longer_spans(upto: Pos, spans: Spans) -> Spans
+    ensures { result ≡ longer_spans upto spans }
+{
+    Spans {
+        video: longer(upto, spans.video),
+        audio: longer(upto, spans.audio),
+        sub: longer(upto, spans.sub),
+    }
+}
+
+fn meets_then(upto: Pos, range: &Range, other: &Range) -> bool
+    ensures { result ≡ meets_then upto range.now other.now }
+{
+    let spans = longer_spans(upto, range.spans());
+    is_same_set(range.set(), other.set()) && spans_touch(range.set(), &spans, &other.spans())
+}
+
+fn first_met(upto: Pos, range: &Range, others: &[Range]) -> Option<usize>
+    ensures { result ≡ position (meets_then upto range.now) others.now }
+{
+    others.iter().position(|other| meets_then(upto, range, other))
+}
+
+/// Whether the current range touches another once it is read on up to a place.
+#[tactic(auto, using(crate::proofs::Lists::any_place))]
+pub(crate) fn touches_then(upto: Pos, range: &Option<Range>, others: &[Range]) -> bool
+    ensures { result ≡ meets_then_in upto range.now others.now }
+{
+    match range {
+        Some(range) => first_met(upto, range, others).is_some(),
+        None => false,
     }
 }
 

@@ -1,6 +1,6 @@
 -- Room for a part of the film and for the joins after it.
 use Rattle.std.proofs.Common.{◌≡◌, ℕ, ◌+◌, ◌<◌, ◌≤◌, ◌==◌, Bool, true, false, ◌&&◌, ◌||◌, List, [], ◌∷◌, length, Option, Some, None, refl, ap, sym, ◌∙◌, arith, inl, inr}
-use Rattle.std.specs.Prelude.{IfSome, IsSomeAnd}
+use Rattle.std.specs.Prelude.{IfSome, IsSomeAnd, OnOk, Result, Ok, Err}
 use Rattle.std.specs.List.{AllByRecursion, filter, list_any}
 use Rattle.std.proofs.lemmas.Bool.{cases_Bool}
 use Rattle.mc_packet.specs.declared.packet.Packet.{Packet}
@@ -16,8 +16,8 @@ use Rattle.mc_range.specs.Growing.{ExtendsAll, ExtendsIn, IsFed, news, of_track}
 use Rattle.mc_range.specs.Tracks.{interval_of, intervals, spans_touch}
 use Rattle.mc_range.proofs.Touching.{meets_same}
 use Rattle.mc_cache.specs.Cache.{CacheState, IsCache, IsOther}
-use Rattle.mc_cache.specs.Changing.{Feeds}
-use Rattle.mc_cache.specs.Rooms.{HasRoomFor, HasRoomToFeed, HasRoomToJoin, HasSpareFor, MayTake, MayTakePart, count_at_all, longer, longer_spans, meets_any, meets_any_then, meets_then}
+use Rattle.mc_cache.specs.Changing.{Feeds, RoomierIn}
+use Rattle.mc_cache.specs.Rooms.{HasRoomFor, HasRoomToFeed, HasRoomToJoin, HasSpareFor, MayTake, MayTakePart, count_at_all, longer, longer_spans, meets_any, meets_any_then, meets_then, meets_then_in}
 
 -- ---- the spare room after a part
 
@@ -140,3 +140,24 @@ pub any_then : (upto : Pos) (r q : RangeState) (rs : List RangeState) → IsRoom
 any_then upto r q [] i = refl
 any_then upto r q (o ∷ rs) i =
     ap (λ x. x || meets_any_then upto q rs) (same_then upto r q o i) ∙ ap (λ x. meets_then upto r o || x) (any_then upto r q rs i)
+
+-- ---- the same of a call that may be refused
+
+pub fed_ready : {A B : Type 0} (c : Chunk) (b : Option RangeState) (old : CacheState) (e : ℕ) (rs : List RangeState) (result : Result A B) → old.join_room ≤ e → rs ≡ old.others → IfSome b IsRange
+    → AllByRecursion IsOther rs → OnOk result (IsSomeAnd old.current (λ o. IsSomeAnd b (λ n. IsFed c o n))) → OnOk result (HasRoomToFeed c old → IfSome b (MayTake e rs))
+fed_ready c b old e rs (Err x) l r i a f = tt
+fed_ready c b old e rs (Ok x) l r i a f = λ h. let z : AllByRecursion IsOther old.others = rw r at a in rw r (take_after c old.join_room e old.current b old.others l i z f h)
+
+alone_in : (c : Chunk) (d more : ℕ) (a b : Option RangeState) (rs : List RangeState) (t : Bool) → more ≡ length c.packets → RoomierIn a b → t ≡ meets_then_in (place_at c.to.pos) a rs → t ≡ false
+    → IfSome b (λ r. HasRoomFor [] more r) → IfSome b (MayTakePart c d rs)
+alone_in c d more None b rs t m i y n h = rw i tt
+alone_in c d more (Some r) None rs t m i y n h = absurd i
+alone_in c d more (Some r) (Some q) rs t m i y n h =
+    let e = any_then (place_at c.to.pos) r q rs i in
+    let z : meets_any_then (place_at c.to.pos) q rs ≡ false = e ∙ sym y ∙ n in
+    record { alone = rw (← m) h; joined = λ x. absurd (cc) }
+
+pub alone : {A B : Type 0} (c : Chunk) (d more : ℕ) (a b : Option RangeState) (rs : List RangeState) (t : Bool) (result : Result A B) → more ≡ length c.packets → RoomierIn a b → t ≡ meets_then_in (place_at c.to.pos) a rs → t ≡ false
+    → OnOk result (IfSome b (λ r. HasRoomFor [] more r)) → OnOk result (IfSome b (MayTakePart c d rs))
+alone c d more a b rs t (Err x) m i y n h = tt
+alone c d more a b rs t (Ok x) m i y n h = alone_in c d more a b rs t m i y n h

@@ -166,8 +166,8 @@ left_stand ps set old new i h l =
     let k = both_all (Held ps set) (λ r. holds r ≡ holds_any ps set (as_range r)) (ranges_of old) (λ r x. holds_same ps set r x.range x.film) a in
     let f = filter_same holds (holds_any ps set) (ranges_of old) k in
     stand_is (option_map as_range new.current) None (map as_range new.others) (filter (holds_any ps set) (stand_ranges (stand_of old)))
-      (ap (λ c. option_map as_range c) l.no_current)
-      (ap (λ rs. map as_range rs) (l.others_is ∙ left_kept old.current old.others i.others) ∙ sym f ∙ ap (λ rs. filter (holds_any ps set) rs) (sym (front_same old.current old.others)))
+    (ap (λ c. option_map as_range c) l.no_current)
+    (ap (λ rs. map as_range rs) (l.others_is ∙ left_kept old.current old.others i.others) ∙ sym f ∙ ap (λ rs. filter (holds_any ps set) rs) (sym (front_same old.current old.others)))
 
 pub left_holds : (ps : List Told) (set : Choice) (old new : CacheState) → IsCache old → HoldsAll ps set old → IsLeft old new → HoldsAll ps set new
 left_holds ps set old new i h l =
@@ -193,10 +193,10 @@ chosen_stand ps set t dir old new i h c =
     let k = both_all (Held ps set) (λ r. holds r ≡ holds_any ps set (as_range r)) (without_first (serves set t dir) (ranges_of old)) (λ r x. holds_same ps set r x.range x.film) b in
     let f = filter_same holds (holds_any ps set) (without_first (serves set t dir) (ranges_of old)) k in
     stand_is (option_map as_range new.current) (first_that (film_serves ps set dir t) (stand_ranges (stand_of old))) (map as_range new.others)
-      (filter (holds_any ps set) (stand_without (film_serves ps set dir t) (stand_ranges (stand_of old))))
-      (ap (λ x. option_map as_range x) c.current_is ∙ sym (server_film ps set t dir old i h))
-      (ap (λ rs. map as_range rs) c.others_is ∙ sym f ∙ ap (λ rs. filter (holds_any ps set) rs) (sym w)
-        ∙ ap (λ rs. filter (holds_any ps set) (stand_without (film_serves ps set dir t) rs)) (sym (front_same old.current old.others)))
+    (filter (holds_any ps set) (stand_without (film_serves ps set dir t) (stand_ranges (stand_of old))))
+    (ap (λ x. option_map as_range x) c.current_is ∙ sym (server_film ps set t dir old i h))
+    (ap (λ rs. map as_range rs) c.others_is ∙ sym f ∙ ap (λ rs. filter (holds_any ps set) rs) (sym w)
+    ∙ ap (λ rs. filter (holds_any ps set) (stand_without (film_serves ps set dir t) rs)) (sym (front_same old.current old.others)))
 
 pub chosen_holds : (ps : List Told) (set : Choice) (t : ℤ) (dir : Dir) (old new : CacheState) → HoldsAll ps set old → IsChosen set t dir old new → HoldsAll ps set new
 chosen_holds ps set t dir old new h c =
@@ -222,8 +222,8 @@ pub started_stand : (set : Choice) (starts : Starts) (drops : List Removal) (old
     → stand_of new ≡ found_with set starts (stand_of old).others None
 started_stand set starts drops old new d n s =
     stand_is (option_map as_range new.current) (Some (new_range set starts)) (map as_range new.others) (take 9 (map as_range old.others))
-      (begun_is set starts new.current d s.current)
-      (ap (λ rs. map as_range rs) (s.others_is ∙ ap (λ c. take 9 (left_with c old.others)) n) ∙ map_taken 9 old.others)
+    (begun_is set starts new.current d s.current)
+    (ap (λ rs. map as_range rs) (s.others_is ∙ ap (λ c. take 9 (left_with c old.others)) n) ∙ map_taken 9 old.others)
 
 pub started_holds : (ps : List Told) (set : Choice) (starts : Starts) (drops : List Removal) (old new : CacheState) → old.current ≡ None → HoldsAll ps set old → IsStarted set starts drops old new → HoldsAll ps set new
 started_holds ps set starts drops old new n h s =
@@ -246,7 +246,7 @@ fed_holds_in ps set c (Some o) (Some n) r p m i h f = record { film = fed_film p
 pub fed_stand : (chunk : Chunk) (old new : CacheState) → Feeds chunk old new → stand_of new ≡ fed chunk.to.pos chunk.ending (stand_of old)
 fed_stand chunk old new f =
     stand_is (option_map as_range new.current) (option_map (fed_range chunk.to.pos chunk.ending) (option_map as_range old.current)) (map as_range new.others) (map as_range old.others)
-      (fed_is chunk old.current new.current f.current) (ap (λ rs. map as_range rs) f.others_is)
+    (fed_is chunk old.current new.current f.current) (ap (λ rs. map as_range rs) f.others_is)
 
 pub fed_holds : (ps : List Told) (set : Choice) (chunk : Chunk) (old new : CacheState) → IsRising ps → IsPart ps chunk → IsCache old → IsSomeAnd old.current (λ r. chunk.from ≡ r.mark) → HoldsAll ps set old → Feeds chunk old new
     → HoldsAll ps set new
@@ -273,8 +273,8 @@ pub switched_stand : (ps : List Told) (set next : Choice) (drops : List Removal)
 switched_stand ps set next drops old new i h k r =
     let e = switched_is set next old.current i.current (sets_of ps set old.current h.current) k in
     stand_is (option_map as_range new.current) (if is_empty next then None else option_map (keep_tracks next) (option_map as_range old.current)) (map as_range new.others) []
-      (ap (λ c. option_map as_range c) r.current_is ∙ empty_is (is_empty next) (option_map (retracked next) old.current) ∙ ap (λ c. if is_empty next then None else c) e)
-      (ap (λ rs. map as_range rs) r.no_others)
+    (ap (λ c. option_map as_range c) r.current_is ∙ empty_is (is_empty next) (option_map (retracked next) old.current) ∙ ap (λ c. if is_empty next then None else c) e)
+    (ap (λ rs. map as_range rs) r.no_others)
 
 kept_holds : (ps : List Told) (set next : Choice) (c : Option RangeState) → IfSome c IsRange → IfSome c (HoldsIn ps set) → same_kinds set next ≡ true → IfSome (option_map (retracked next) c) (HoldsIn ps next)
 kept_holds ps set next None i h k = tt

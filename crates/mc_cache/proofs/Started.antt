@@ -45,9 +45,9 @@ any_left test None rs e = e
 any_left test (Some r) rs e = elim (cases_Bool (test r)) [
   | inl y ↦ rw y refl
   | inr m ↦ elim (cases_Bool (holds r)) [
-      | inl y ↦ let z : list_any test rs ≡ true = rw (y, m) at e in rw m z
-      | inr n ↦ let z : list_any test rs ≡ true = rw n at e in rw m z
-    ]
+    | inl y ↦ let z : list_any test rs ≡ true = rw (y, m) at e in rw m z
+    | inr n ↦ let z : list_any test rs ≡ true = rw n at e in rw m z
+  ]
 ]
 
 count_taken : (k n : ℕ) (rs : List RangeState) → count_at_all k (take n rs) ≤ count_at_all k rs
@@ -95,9 +95,11 @@ room_to_join set starts r st roomy ready left nine last o f rc ro rj l k e p = b
   where
     held : roomy.prepared ≡ st.prepared
     held = ap (λ (x : CacheState). x.prepared) o.same
+
     others_are : last.others ≡ take 9 (left_with st.current st.others)
     others_are =
         ap (λ (x : CacheState). x.others) e ∙ k.others_is ∙ ap (λ xs. take 9 xs) (l.others_is ∙ ap (λ x. left_with x ready.others) (rc ∙ ap (λ (x : CacheState). x.current) o.same) ∙ ap (λ xs. left_with st.current xs) (ro ∙ ap (λ (x : CacheState). x.others) o.same))
+
     drops_are : st.join_room ≤ last.join_room
     drops_are =
         let a = o.join_room in
@@ -106,8 +108,10 @@ room_to_join set starts r st roomy ready left nine last o f rc ro rj l k e p = b
         let d = rj in
         let g : last.join_room ≡ nine.join_room = ap (λ (x : CacheState). x.join_room) e in
         omega arith
+
     current_is : last.current ≡ Some r
     current_is = ap (λ (x : CacheState). x.current) e
+
     by_ready : (p : Option Prepared) → IfSome p (λ x. x.starts ≡ starts → x.range.set ≡ set → r ≡ x.range) → IsSomeAnd p (λ x. (x.starts ≡ starts) × (x.range.set ≡ set) × MayTake st.join_room (ranges_of st) x.range) → HasRoomToJoin last
     by_ready None f q = absurd q
     by_ready (Some x) f q =

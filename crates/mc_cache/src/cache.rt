@@ -15,13 +15,18 @@ ghost use Rattle.mc_cache.specs.Rooms.{HasRoomFor, HasRoomToFeed, HasRoomToJoin,
 ghost use Rattle.mc_cache.specs.Changing.{AddsTrack, Feeds, IsChosen, IsLeft, IsNew, IsRetracked, IsOnlyRoomier, IsSameButRoom, IsStarted, KeepsNine, MayAdd, heads_in, server, serves};
 
 use crate::listing::{count_all, holds, take_serving, weight_all};
-use crate::parts::{ahead_in, cut_next, join_others, keep_nine, look_in, reselect, tell_lost, weight_in};
+use crate::parts::{
+    ahead_in, cut_next, join_others, keep_nine, look_in, reselect, tell_lost, weight_in,
+};
 use crate::prepared::{Prepared, take_if};
 use crate::removals::{Drops, push_ranges};
 use crate::rooms::{make_ready, reserve_in, touches_any, touches_then};
 use crate::views::{begins_in, show_all};
 use mc_journal::{Cause, Removal};
-use mc_packet::{CacheView, Choice, Chunk, Dir, Ending, Heads, Kind, Limits, Mark, NoMemory, Pos, Starts, TrackNo};
+use mc_packet::{
+    CacheView, Choice, Chunk, Dir, Ending, Heads, Kind, Limits, Mark, NoMemory, Pos, Starts,
+    TrackNo,
+};
 use mc_range::Range;
 use std::alloc::Global;
 use std::marker::Model;

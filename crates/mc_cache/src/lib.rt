@@ -7,12 +7,14 @@
 
 mod cache;
 mod joining;
-mod listing;
 mod law;
+mod listing;
 mod parts;
 mod prepared;
 mod removals;
 mod rooms;
+#[cfg(test)]
+mod tests;
 mod views;
 
 pub use cache::{Cache, Joins};

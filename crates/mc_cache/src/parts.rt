@@ -145,7 +145,11 @@ fn cut_current(range: &mut Option<Range>, heads: &Heads) -> Option<Cut>
 }
 
 /// Makes the next drop of the last other range, else of the current one.
-pub(crate) fn cut_next(range: &mut Option<Range>, others: &mut Vec<Range>, heads: &Heads) -> Option<Cut>
+pub(crate) fn cut_next(
+    range: &mut Option<Range>,
+    others: &mut Vec<Range>,
+    heads: &Heads,
+) -> Option<Cut>
     requires all { AllByRecursion IsOther others.old.items }
     requires over { ahead_in heads.now range.old < weight_of (in_front range.old others.old.items) }
     requires room { length others.old.items ≤ vec_capacity others.old }

@@ -151,7 +151,9 @@ fn meets_then(upto: Pos, range: &Range, other: &Range) -> bool
 fn first_met(upto: Pos, range: &Range, others: &[Range]) -> Option<usize>
     ensures { result ≡ position (meets_then upto range.now) others.now }
 {
-    others.iter().position(|other| meets_then(upto, range, other))
+    others
+        .iter()
+        .position(|other| meets_then(upto, range, other))
 }
 
 /// Whether the current range touches another once it is read on up to a place.

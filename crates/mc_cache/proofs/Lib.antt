@@ -10,3 +10,4 @@ pub mod Started
 pub mod Shows
 pub mod Standing
 pub mod Feeding
+pub mod Joinings

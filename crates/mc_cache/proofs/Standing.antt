@@ -44,7 +44,7 @@ all_front : (P : RangeState → Type 0) (c : Option RangeState) (rs : List Range
 all_front P None rs i a = a
 all_front P (Some r) rs i a = (i, a)
 
-all_without : (P : RangeState → Type 0) (test : RangeState → Bool) (rs : List RangeState) → AllByRecursion P rs → AllByRecursion P (without_first test rs)
+pub all_without : (P : RangeState → Type 0) (test : RangeState → Bool) (rs : List RangeState) → AllByRecursion P rs → AllByRecursion P (without_first test rs)
 all_without P test [] a = a
 all_without P test (r ∷ rs) a = elim (cases_Bool (test r)) [ inl y ↦ rw y a.1 | inr n ↦ rw n (a.0, all_without P test rs a.1) ]
 
@@ -52,7 +52,7 @@ all_filter : (P : RangeState → Type 0) (test : RangeState → Bool) (rs : List
 all_filter P test [] a = a
 all_filter P test (r ∷ rs) a = elim (cases_Bool (test r)) [ inl y ↦ rw y (a.0, all_filter P test rs a.1) | inr n ↦ rw n (all_filter P test rs a.1) ]
 
-all_find : (P : RangeState → Type 0) (test : RangeState → Bool) (rs : List RangeState) → AllByRecursion P rs → IfSome (find test rs) P
+pub all_find : (P : RangeState → Type 0) (test : RangeState → Bool) (rs : List RangeState) → AllByRecursion P rs → IfSome (find test rs) P
 all_find P test [] a = tt
 all_find P test (r ∷ rs) a = elim (cases_Bool (test r)) [ inl y ↦ rw y a.0 | inr n ↦ rw n (all_find P test rs a.1) ]
 
@@ -66,11 +66,11 @@ map_taken zero rs = refl
 map_taken (suc n) [] = refl
 map_taken (suc n) (r ∷ rs) = ap (λ xs. as_range r ∷ xs) (map_taken n rs)
 
-both_all : (P Q : RangeState → Type 0) (rs : List RangeState) → ((r : RangeState) → P r → Q r) → AllByRecursion P rs → AllByRecursion Q rs
+pub both_all : (P Q : RangeState → Type 0) (rs : List RangeState) → ((r : RangeState) → P r → Q r) → AllByRecursion P rs → AllByRecursion Q rs
 both_all P Q [] f a = tt
 both_all P Q (r ∷ rs) f a = (f r a.0, both_all P Q rs f a.1)
 
-find_same : (test : RangeState → Bool) (seen : Range → Bool) (rs : List RangeState) → AllByRecursion (λ r. test r ≡ seen (as_range r)) rs
+pub find_same : (test : RangeState → Bool) (seen : Range → Bool) (rs : List RangeState) → AllByRecursion (λ r. test r ≡ seen (as_range r)) rs
     → first_that seen (map as_range rs) ≡ option_map as_range (find test rs)
 find_same test seen [] a = refl
 find_same test seen (r ∷ rs) a = elim (cases_Bool (test r)) [
@@ -78,7 +78,7 @@ find_same test seen (r ∷ rs) a = elim (cases_Bool (test r)) [
   | inr n ↦ let z : seen (as_range r) ≡ false = sym a.0 ∙ n in rw (n, z) (find_same test seen rs a.1)
 ]
 
-without_same : (test : RangeState → Bool) (seen : Range → Bool) (rs : List RangeState) → AllByRecursion (λ r. test r ≡ seen (as_range r)) rs
+pub without_same : (test : RangeState → Bool) (seen : Range → Bool) (rs : List RangeState) → AllByRecursion (λ r. test r ≡ seen (as_range r)) rs
     → stand_without seen (map as_range rs) ≡ map as_range (without_first test rs)
 without_same test seen [] a = refl
 without_same test seen (r ∷ rs) a = elim (cases_Bool (test r)) [
@@ -137,7 +137,7 @@ pub record Held (ps : List Told) (set : Choice) (r : RangeState) : Type 0 where
   pub range : IsRange r
   pub film : HoldsIn ps set r
 
-pair_all : (ps : List Told) (set : Choice) (rs : List RangeState) → AllByRecursion IsOther rs → AllByRecursion (HoldsIn ps set) rs → AllByRecursion (Held ps set) rs
+pub pair_all : (ps : List Told) (set : Choice) (rs : List RangeState) → AllByRecursion IsOther rs → AllByRecursion (HoldsIn ps set) rs → AllByRecursion (Held ps set) rs
 pair_all ps set [] a b = tt
 pair_all ps set (r ∷ rs) a b = (record { range = a.0.range; film = b.0 }, pair_all ps set rs a.1 b.1)
 

@@ -213,9 +213,9 @@ roomier_weighs r q i =
 -- ---- one more join
 
 pub next_join : (first : RangeState) (beside : List RangeState) (r : RangeState) (rs : List RangeState) (n m : ℕ) (drops more : List Removal) (o r' : RangeState) (b : Bool) (left : List RangeState)
-    → Joins first beside r rs n drops → Some o ≡ neighbour r rs → left ≡ others_left r rs → JoinsOne r o b r' drops more → m ≡ n + (if b then 1 else 0) → Joins first beside r' left m more
-next_join first beside r rs n m drops more o r' true left j e l u z = rw (z, l, u.2) (joins_united r rs n drops o r' u.0 j (sym e) u.1)
-next_join first beside r rs n m drops more o r' false left j e l u z = let k : m ≡ n = omega arith in rw (k, l, u.5) (parted r rs n drops o r' u.0 u.1 u.2 j (sym e) u.3 u.4)
+    → Joins first beside r rs n drops → Some o ≡ neighbour r rs → left ≡ others_left r rs → JoinsOne r o b r' drops more → m ≡ n + (if b then 1 else 0) → IsRange r' → Joins first beside r' left m more
+next_join first beside r rs n m drops more o r' true left j e l u z i = rw (z, l, u.2) (joins_united r rs n drops o r' u.0 j (sym e) u.1 i)
+next_join first beside r rs n m drops more o r' false left j e l u z i = let k : m ≡ n = omega arith in rw (k, l, u.5) (parted r rs n drops o r' u.0 u.1 u.2 j (sym e) u.3 u.4 i)
 
 only_for : (o : RangeState) (rs : List RangeState) (n : ℕ) (r : RangeState) (track : Option ℕ) → HasSpareFor (o ∷ rs) n r.queues track → HasSpareFor (o ∷ []) n r.queues track
 only_for o rs n r None h = tt

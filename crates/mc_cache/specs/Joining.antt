@@ -6,7 +6,7 @@ use Rattle.mc_journal.specs.declared.record.Cause.TheVariants.{Mismatch}
 use Rattle.mc_journal.specs.declared.record.Removal.{Removal}
 use Rattle.mc_queue.specs.declared.queue.UnionError.{UnionError}
 use Rattle.mc_queue.specs.declared.queue.UnionError.TheVariants.{Mismatch as Differ, NoMemory}
-use Rattle.mc_range.specs.Range.{RangeState, IsRoomier, meets_range}
+use Rattle.mc_range.specs.Range.{RangeState, IsRange, IsRoomier, meets_range}
 use Rattle.mc_range.specs.Joining.{IsJoined, JoinRefused}
 use Rattle.mc_cache.specs.Cache.{CacheState, without_first}
 use Rattle.mc_cache.specs.Changing.{IsSameButRoom}
@@ -27,10 +27,10 @@ pub data Joins (first : RangeState) (beside : List RangeState) : RangeState → 
   unjoined : Joins first beside first beside 0 []
   -- and then it is united with the first that touches it
   united : (r : RangeState) (rs : List RangeState) (n : ℕ) (drops : List Removal) (o r' o' : RangeState)
-      → Joins first beside r rs n drops → neighbour r rs ≡ Some o → IsJoined r o r' o' → Joins first beside r' (others_left r rs) (n + 1) drops
+      → Joins first beside r rs n drops → neighbour r rs ≡ Some o → IsJoined r o r' o' → IsRange r' → Joins first beside r' (others_left r rs) (n + 1) drops
   -- or that one goes, where they differ
   parted : (r : RangeState) (rs : List RangeState) (n : ℕ) (drops : List Removal) (o r' : RangeState) (at : Pos) (ours other : Option ℤ)
-      → Joins first beside r rs n drops → neighbour r rs ≡ Some o → JoinRefused r o (Differ at ours other) → IsRoomier r r'
+      → Joins first beside r rs n drops → neighbour r rs ≡ Some o → JoinRefused r o (Differ at ours other) → IsRoomier r r' → IsRange r'
       → Joins first beside r' (others_left r rs) n (drops ++ removals_of (Mismatch at ours other) o)
 
 -- joins of the current range, if there is one, until no other touches it

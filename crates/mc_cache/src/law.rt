@@ -1,7 +1,7 @@
 //! What the calls of a cache mean for the film: over every list of a film's packets of which each
 //! range holds, of each track, exactly those in its span, the ranges after a call are those that the
 //! record of it leaves by the rules of `mc_journal`, and they hold the film's packets again.
-ghost use Rattle.std.specs.Prelude.{◌≡◌, None, true, List, ℤ, IsSomeAnd, option_map};
+ghost use Rattle.std.specs.Prelude.{◌≡◌, ℕ, None, true, List, ℤ, IsSomeAnd, option_map};
 ghost use Rattle.mc_packet.specs.declared.choice.Choice.{Choice};
 ghost use Rattle.mc_packet.specs.declared.choice.Dir.{Dir};
 ghost use Rattle.mc_packet.specs.declared.choice.Starts.{Starts};
@@ -12,11 +12,13 @@ ghost use Rattle.mc_journal.specs.Choices.{is_distinct};
 ghost use Rattle.mc_journal.specs.Films.{IsRising};
 ghost use Rattle.mc_journal.specs.Ranges.{serves};
 ghost use Rattle.mc_journal.specs.Stands.{chosen, fed, first_that, found_with, left, ranges_of, switched, tidied};
-ghost use Rattle.mc_range.specs.Range.{as_range};
+ghost use Rattle.mc_range.specs.Range.{IsRange, RangeState, as_range};
 ghost use Rattle.mc_range.specs.Filmed.{IsPart, same_kinds};
-ghost use Rattle.mc_cache.specs.Cache.{CacheState, IsCache, stand_of};
+ghost use Rattle.mc_cache.specs.Cache.{CacheState, IsCache, IsOther, stand_of};
 ghost use Rattle.mc_cache.specs.Changing.{Feeds, IsChosen, IsLeft, IsRetracked, IsStarted, server};
-ghost use Rattle.mc_cache.specs.Filmed.{HoldsAll};
+ghost use Rattle.std.specs.List.{AllByRecursion};
+ghost use Rattle.mc_cache.specs.Joining.{Joins};
+ghost use Rattle.mc_cache.specs.Filmed.{HoldsAll, HoldsIn, JoinsFilm};
 
 /// The range that a seek makes current is the first that serves it, as the rule over the film's list
 /// says, and the others stay in their order.
@@ -54,4 +56,10 @@ pub fn fed_films()
 pub fn switched_films()
     ensures stand { (ps : List Told) (set next : Choice) (drops : List Removal) (old new : CacheState) → IsCache old → HoldsAll ps set old → same_kinds set next ≡ true → IsRetracked next drops old new → stand_of new ≡ switched next (stand_of old) }
     ensures film { (ps : List Told) (set next : Choice) (drops : List Removal) (old new : CacheState) → IsCache old → HoldsAll ps set old → same_kinds set next ≡ true → IsRetracked next drops old new → HoldsAll ps next new }
+{}
+
+/// Ranges of one film don't differ, so that each join is one of the rule: the ranges are those that as
+/// many joins leave, each where another range touches the current one.
+pub fn joined_films()
+    ensures { (ps : List Told) (set : Choice) (first : RangeState) (beside : List RangeState) (r : RangeState) (rs : List RangeState) (n : ℕ) (drops : List Removal) → IsRising ps → IsRange first → HoldsIn ps set first → AllByRecursion IsOther beside → AllByRecursion (HoldsIn ps set) beside → Joins first beside r rs n drops → JoinsFilm ps set first beside r rs n drops }
 {}

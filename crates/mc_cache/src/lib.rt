@@ -18,7 +18,7 @@ mod tests;
 mod views;
 
 pub use cache::{Cache, Joins};
-pub use law::{chosen_films, fed_films, left_films, started_films, switched_films};
+pub use law::{chosen_films, fed_films, joined_films, left_films, started_films, switched_films};
 pub use mc_journal::{Cause, Removal};
 pub use mc_packet::NoMemory;
 pub use removals::Drops;

@@ -1,0 +1,13 @@
+pub mod Lists
+pub mod Fed
+pub mod Chosen
+pub mod Told
+pub mod Spare
+pub mod United
+pub mod Reselected
+pub mod Pruned
+pub mod Started
+pub mod Shows
+pub mod Standing
+pub mod Feeding
+pub mod Joinings

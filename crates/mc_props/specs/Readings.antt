@@ -43,19 +43,14 @@ got_at stated (Some place) name facts to = given_in to (read_at stated place nam
 abbrev pub got : (ℕ → Facts → Reading) → List PropEntry → List ℕ → Facts → Format → Result Value PropError
 got stated entries name facts to = got_at stated (place_of (property_part name) entries) name facts to
 
--- the format and the value that an observer is given: none of both where there is no value, or none in its format
-abbrev pub shown_as : Format → Option Value → Format × Value
-shown_as to None = (format.None, value.None)
-shown_as to (Some v) = (to, v)
-
-abbrev pub shown_in : Format → Option Value → Format × Value
-shown_in to None = (format.None, value.None)
-shown_in to (Some v) = shown_as to (converted v to)
+-- the format and the value that an observer is given: none of both where there is no answer in its format
+abbrev pub shown : Format → Result Value PropError → Format × Value
+shown to (Ok v) = (to, v)
+shown to (Err e) = (format.None, value.None)
 
 -- what an observer of a name has at these facts; its entry is the place at which the name's property stands, if any
 abbrev pub present_of : (ℕ → Facts → Reading) → Option ℕ → List ℕ → Format → Facts → Format × Value
-present_of stated None name to facts = (format.None, value.None)
-present_of stated (Some place) name to facts = shown_in to (read_at stated place name facts)
+present_of stated entry name to facts = shown to (got_at stated entry name facts to)
 
 -- the mask of an entry; an unknown name has no field
 abbrev pub mask_of : Option PropEntry → ℕ

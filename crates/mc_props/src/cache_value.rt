@@ -1,6 +1,7 @@
 ghost use Rattle.std.specs.Prelude.{◌≡◌, ◌+◌, ◌++◌, ◌∷◌, [], IfOk, OnOk};
+ghost use Rattle.std.specs.Option.{is_some};
 ghost use Rattle.mc_value.specs.declared.value.Value.TheVariants as value;
-ghost use Rattle.mc_props.specs.Cache.{bounds_maps, cache_map, range_map, range_maps, time_value};
+ghost use Rattle.mc_props.specs.Cache.{bounds_maps, cache_map, ends_of, octets_of, range_map, range_maps, time_value};
 ghost use Rattle.mc_props.specs.Tracks.{number_value};
 
 use crate::track_values::{number_value, put};
@@ -16,21 +17,35 @@ pub(crate) fn cache_map(alloc: Global, view: &CacheView) -> Result<Value, NoMemo
     let mut pairs = Pairs::new(alloc);
     let ranges = range_maps(alloc, view.ranges.as_slice())?;
     put(alloc, &mut pairs, "seekable-ranges", Value::Array(ranges))?;
-    put(alloc, &mut pairs, "bof-cached", Value::Flag(view.bof))?;
-    put(
-        alloc,
-        &mut pairs,
-        "eof-cached",
-        Value::Flag(view.ending.is_some()),
-    )?;
-    put(alloc, &mut pairs, "fw-bytes", number_value(view.forward))?;
-    put(
-        alloc,
-        &mut pairs,
-        "total-bytes",
-        total(view.forward, view.back),
-    )?;
+    put_ends(alloc, &mut pairs, view)?;
+    put_octets(alloc, &mut pairs, view)?;
     Ok(Value::Map(pairs))
+}
+
+fn put_ends(alloc: Global, pairs: &mut Pairs, view: &CacheView) -> Result<(), NoMemory>
+    ensures { OnOk result (pairs.new ≡ pairs.old ++ ends_of view.now) }
+{
+    put_flag(alloc, pairs, "bof-cached", view.bof)?;
+    put_flag(alloc, pairs, "eof-cached", has_ending(view))
+}
+
+fn put_flag(alloc: Global, pairs: &mut Pairs, name: &str, flag: bool) -> Result<(), NoMemory>
+    ensures { OnOk result (pairs.new ≡ pairs.old ++ (name.now, value.Flag flag) ∷ []) }
+{
+    put(alloc, pairs, name, Value::Flag(flag))
+}
+
+fn has_ending(view: &CacheView) -> bool
+    ensures { result ≡ is_some view.now.ending }
+{
+    view.ending.is_some()
+}
+
+fn put_octets(alloc: Global, pairs: &mut Pairs, view: &CacheView) -> Result<(), NoMemory>
+    ensures { OnOk result (pairs.new ≡ pairs.old ++ octets_of view.now) }
+{
+    put(alloc, pairs, "fw-bytes", number_value(view.forward))?;
+    put(alloc, pairs, "total-bytes", total(view.forward, view.back))
 }
 
 /// The sum as a value, as far as an `i64` holds it.

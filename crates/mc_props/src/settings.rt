@@ -9,6 +9,7 @@ ghost use Rattle.mc_props.specs.declared.settings.Write.TheVariants as write;
 
 use crate::facts::Facts;
 use crate::refusal::PropError;
+use crate::track_values::nth_of_kind;
 use mc_packet::{Choice, Kind, TrackNo};
 use mc_tracks::{Track, TrackList};
 use mc_value::{Format, Value, convert};
@@ -104,19 +105,21 @@ fn track_at(kind: Kind, number: i64, tracks: &TrackList) -> Option<&Track>
     if number < 1 {
         return None;
     }
-    tracks
-        .as_slice()
-        .iter()
-        .filter(|track| track.kind == kind)
-        .nth(number as usize - 1)
+    nth_of_kind(tracks.as_slice(), kind, number as usize - 1)
 }
 
 fn with_track(kind: Kind, track: Option<TrackNo>, set: Choice) -> Choice
     ensures { result ≡ with_track kind track set }
 {
     match kind {
-        Kind::Video => Choice { video: track, ..set },
-        Kind::Audio => Choice { audio: track, ..set },
+        Kind::Video => Choice {
+            video: track,
+            ..set
+        },
+        Kind::Audio => Choice {
+            audio: track,
+            ..set
+        },
         Kind::Sub => Choice { sub: track, ..set },
     }
 }

@@ -1,13 +1,13 @@
 ghost use Rattle.std.specs.Prelude.{◌≡◌, ◌<◌, ◌^◌, ℕ, IfOk, IfSome, List, Option, false, length};
 ghost use Rattle.std.specs.Option.{option_copied};
 ghost use Rattle.mc_value.specs.declared.value.Format.{Format};
-ghost use Rattle.mc_props.specs.Entries.{AreEntries, Masked, place_of, property_part};
+ghost use Rattle.mc_props.specs.Entries.{AreEntries, place_of, property_part};
 ghost use Rattle.mc_props.specs.Fields.{Agree, AgreeOutside, share_field};
-ghost use Rattle.mc_props.specs.Readings.{Answers, given_in, got, mask_at, mask_of, present_of, read_at, shown_in};
+ghost use Rattle.mc_props.specs.Readings.{Answers, got, got_at, mask_at, present_of, read_at};
 ghost use Rattle.mc_props.specs.Settings.{set_to};
 ghost use Rattle.mc_props.specs.declared.facts.Facts.{Facts};
 
-use crate::entries::{PropEntries, place_of};
+use crate::entries::{PropEntries, PropEntry, place_of};
 use crate::facts::Facts;
 use crate::fields::share_field;
 use crate::meanings::Meaning;
@@ -16,7 +16,7 @@ use crate::reading::Reading;
 use crate::reads::Reads;
 use crate::refusal::PropError;
 use crate::settings::{Write, written};
-use mc_value::{Format, NoMemory, Value, ValueError, convert, path};
+use mc_value::{Format, NoMemory, Value, convert, path};
 use std::alloc::{AllocError, Global};
 use std::marker::{Model, PhantomData};
 
@@ -67,12 +67,9 @@ impl<F: Reads<M>, M: Meaning> PropTable<F, M> {
     pub fn get(&self, name: &str, facts: &Facts, format: Format) -> Result<Value, PropError>
         ensures { Answers result (got M.value self.now name.now facts.now format) }
     {
-        let Some(place) = self.find(name) else {
-            return Err(PropError::NotFound);
-        };
-        match self.read_at(place, name, facts)? {
-            Some(value) => Ok(convert(self.alloc, &value, format)?),
-            None => Err(PropError::Unavailable),
+        match self.find(name) {
+            Some(place) => self.get_at(place, name, facts, format),
+            None => Err(PropError::NotFound),
         }
     }
 
@@ -83,10 +80,10 @@ impl<F: Reads<M>, M: Meaning> PropTable<F, M> {
     pub fn set(&self, name: &str, facts: &Facts, value: &Value) -> Result<Write, PropError>
         ensures { Answers result (set_to M.value self.now name.now facts.now value.now) }
     {
-        let Some(place) = place_of(self.entries.as_slice(), name) else {
+        let Some(place) = place_of(self.entries(), name) else {
             return Err(PropError::NotFound);
         };
-        let Some(entry) = self.entries.get(place) else {
+        let Some(entry) = self.entries().get(place) else {
             return Err(PropError::NotFound);
         };
         if !entry.writable {
@@ -104,7 +101,7 @@ impl<F: Reads<M>, M: Meaning> PropTable<F, M> {
         ensures place { result ≡ place_of (property_part name.now) self.now }
         ensures known { IfSome result (λ k. k < length self.now) }
     {
-        match place_of(self.entries.as_slice(), property_part(name)) {
+        match place_of(self.entries(), property_part(name)) {
             Some(place) => Some(place as u32),
             None => None,
         }
@@ -118,10 +115,7 @@ impl<F: Reads<M>, M: Meaning> PropTable<F, M> {
         ensures value { result ≡ share_field (mask_at self.now (Option.Some entry)) mask }
         ensures spared { result ≡ false → (f g : Facts) → AgreeOutside mask f g → (name : List ℕ) → (format : Format) → present_of M.value (Option.Some entry) name format f ≡ present_of M.value (Option.Some entry) name format g }
     {
-        match self.entries.get(entry as usize) {
-            Some(found) => share_field(found.mask, mask),
-            None => false,
-        }
+        share_field(self.mask_at(entry), mask)
     }
 
     /// What an observer of a name has: the format, and the value in it; or no format and no value
@@ -141,17 +135,31 @@ impl<F: Reads<M>, M: Meaning> PropTable<F, M> {
         let Some(place) = entry else {
             return Ok((Format::None, Value::None));
         };
-        match self.read_at(place, name, facts)? {
-            Some(value) => shown_in(self.alloc, format, &value),
-            None => Ok((Format::None, Value::None)),
+        match self.get_at(place, name, facts, format) {
+            Ok(value) => Ok((format, value)),
+            Err(PropError::NoMemory) => Err(AllocError),
+            Err(_) => Ok((Format::None, Value::None)),
         }
     }
 
-    /// The properties' stated values depend on the fields of their masks alone.
-    pub fn sees_masks_alone(&self)
-        ensures { AreEntries M.value self.now }
+    /// The entries, each at its place. The properties' stated values depend on the fields of their
+    /// masks alone.
+    pub fn entries(&self) -> &[PropEntry]
+        ensures value { result.now ≡ self.now }
+        ensures fit { AreEntries M.value self.now }
     {
-        let _entries = &self.entries;
+        self.entries.as_slice()
+    }
+
+    fn mask_at(&self, entry: u32) -> u32
+        requires { entry < length self.now }
+        ensures value { result ≡ mask_at self.now (Option.Some entry) }
+        ensures fit { AreEntries M.value self.now }
+    {
+        match self.entries.get(entry as usize) {
+            Some(found) => found.mask,
+            None => 0,
+        }
     }
 
     fn at(&self, place: u32, facts: &Facts) -> Result<Reading, NoMemory>
@@ -171,15 +179,22 @@ impl<F: Reads<M>, M: Meaning> PropTable<F, M> {
             Reading::Unavailable => Ok(None),
         }
     }
-}
 
-/// A value in a format, or no format and no value where it has no form there.
-fn shown_in(alloc: Global, format: Format, value: &Value) -> Result<(Format, Value), NoMemory>
-    ensures { IfOk result (λ p. p ≡ shown_in format (Option.Some value.now)) }
-{
-    match convert(alloc, value, format) {
-        Ok(value) => Ok((format, value)),
-        Err(ValueError::NoMemory) => Err(AllocError),
-        Err(_) => Ok((Format::None, Value::None)),
+    fn get_at(
+        &self,
+        place: u32,
+        name: &str,
+        facts: &Facts,
+        format: Format,
+    ) -> Result<Value, PropError>
+        requires { place < length self.now }
+        ensures value { Answers result (got_at M.value (Option.Some place) name.now facts.now format) }
+        ensures fit { AreEntries M.value self.now }
+    {
+        let _entries = &self.entries;
+        match self.read_at(place, name, facts)? {
+            Some(value) => Ok(convert(self.alloc, &value, format)?),
+            None => Err(PropError::Unavailable),
+        }
     }
 }

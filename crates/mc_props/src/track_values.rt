@@ -1,5 +1,7 @@
-ghost use Rattle.std.specs.Prelude.{◌≡◌, ◌++◌, ◌∷◌, [], IfOk, OnOk};
+ghost use Rattle.std.specs.Prelude.{◌≡◌, ◌<◌, ◌^◌, ◌+◌, ◌==◌, ◌++◌, ◌∷◌, [], IfOk, IfSome, OnOk, position, slice_get};
+ghost use Rattle.std.specs.Option.{option_copied};
 ghost use Rattle.mc_value.specs.declared.value.Value.TheVariants as value;
+ghost use Rattle.mc_tracks.specs.TrackList.{all_of_kind, is_of};
 ghost use Rattle.mc_props.specs.Tracks.{chosen, flags_of, id_of, id_of_chosen, id_value, if_filled, is_it, kind_name, number_value, numbers_of, selected_of, texts_of, track_list, track_map};
 
 use mc_packet::{Choice, Kind, TrackNo};
@@ -114,11 +116,37 @@ fn id_of_chosen(tracks: &[Track], kind: Kind, number: Option<TrackNo>) -> Option
 fn id_of(tracks: &[Track], kind: Kind, number: TrackNo) -> Option<u64>
     ensures { result ≡ id_of tracks.now kind number }
 {
-    let place = tracks
+    match place_of(tracks, kind, number) {
+        Some(place) => Some(place as u64 + 1),
+        None => None,
+    }
+}
+
+fn place_of(tracks: &[Track], kind: Kind, number: TrackNo) -> Option<usize>
+    ensures place { result ≡ position (λ t. t.no == number) (all_of_kind kind tracks.now) }
+    ensures small { IfSome result (λ k. k + 1 < 2 ^ 64) }
+{
+    tracks
         .iter()
-        .filter(|track| track.kind == kind)
-        .position(|track| track.no == number)?;
-    Some(place as u64 + 1)
+        .filter(|track| is_of(kind, track.kind))
+        .position(|track| track.no == number)
+}
+
+/// The track at a place among those of a kind, which is counted from 0.
+pub(crate) fn nth_of_kind(tracks: &[Track], kind: Kind, place: usize) -> Option<&Track>
+    ensures { option_copied result ≡ slice_get (all_of_kind kind tracks.now) place }
+{
+    tracks
+        .iter()
+        .filter(|track| is_of(kind, track.kind))
+        .nth(place)
+}
+
+/// Whether two kinds are the same.
+fn is_of(kind: Kind, other: Kind) -> bool
+    ensures { result ≡ is_of kind other }
+{
+    kind == other
 }
 
 fn chosen(kind: Kind, set: Choice) -> Option<TrackNo>

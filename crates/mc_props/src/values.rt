@@ -6,6 +6,7 @@ ghost use Rattle.mc_props.specs.Standard.{file_part, has_track, reading_of, stan
 
 use crate::cache_value::{cache_map, time_value};
 use crate::facts::Facts;
+use crate::names::behind_slash;
 use crate::properties::{Property, needs_file, property_at};
 use crate::reading::Reading;
 use crate::track_values::{selected, track_list};
@@ -16,6 +17,7 @@ use std::alloc::Global;
 /// What the property at a place of `standard_entries` shows of these facts; no other place has one.
 /// It depends on the fields of the entry's mask alone. All properties but `pause`, `mute` and
 /// `idle-active` have no value until a file is loaded.
+#[tactic(auto, unfolding(crate::specs::Standard::standard_of))]
 pub fn standard(alloc: Global, entry: u32, facts: &Facts) -> Result<Reading, NoMemory>
     ensures { IfOk result (λ r. r ≡ standard_of entry facts.now) }
 {
@@ -88,8 +90,8 @@ fn filename(alloc: Global, path: &Option<Text>) -> Result<Reading, NoMemory>
 fn file_part(path: &str) -> &str
     ensures { result.now ≡ file_part path.now }
 {
-    match path.split_once('/') {
-        Some((_, rest)) => file_part(rest),
+    match behind_slash(path) {
+        Some(rest) => file_part(rest),
         None => path,
     }
 }

@@ -1,5 +1,5 @@
 -- A client as contracts see it, and what each call answers and leaves; a poll's answer stands in `Polls`.
-use Rattle.std.specs.Prelude.{◌≡◌, ℕ, ◌≤◌, Bool, true, false, if◌then◌else◌, ◌==◌, ◌||◌, nat_eq, IsTrue, List, [], ◌∷◌, ◌++◌, length, map, All}
+use Rattle.std.specs.Prelude.{ℕ, ◌≤◌, Bool, true, false, if◌then◌else◌, ◌==◌, ◌||◌, nat_eq, List, [], ◌∷◌, ◌++◌, length, map}
 use Rattle.std.specs.List.{list_any}
 use Rattle.indexmap.specs.IndexSet.{insert_key, remove_key}
 use Rattle.mc_ring.specs.Event.{event_number}

@@ -1,6 +1,6 @@
 -- What a poll answers, and the client that it leaves.
-use Rattle.std.specs.Prelude.{◌≡◌, ℕ, ◌+◌, ◌<◌, Bool, true, false, List, [], ◌∷◌, ◌++◌, length, map, take, drop, slice_get, All, Option, Some, None, ◌⊎◌}
-use Rattle.mc_ring.specs.Ring.{RingState, after_pop, with_choked}
+use Rattle.std.specs.Prelude.{◌≡◌, ℕ, ◌+◌, Bool, true, false, List, [], ◌∷◌, ◌++◌, map, take, drop, slice_get, All, Option, Some, None, ◌⊎◌}
+use Rattle.mc_ring.specs.Ring.{after_pop, with_choked}
 use Rattle.mc_ring.specs.declared.event.Event.{Event}
 use Rattle.mc_ring.specs.declared.event.Event.TheVariants.{None as Nothing, Change, Overflow}
 use Rattle.mc_client.specs.Client.{ClientState, with_ring, with_watches}

@@ -1,5 +1,5 @@
 -- The observers of a client: what each was last given, what it has now, and which of them a change may concern.
-use Rattle.std.specs.Prelude.{◌≡◌, ℕ, Bool, true, false, not, ◌==◌, ◌||◌, List, [], ◌∷◌, ◌++◌, filter, map, All, Option, Some, None}
+use Rattle.std.specs.Prelude.{◌≡◌, ℕ, Bool, true, false, not, ◌==◌, ◌||◌, List, filter, All, Option, Some, None}
 use Rattle.mc_value.specs.declared.value.Value.{Value}
 use Rattle.mc_value.specs.declared.value.Format.{Format}
 use Rattle.mc_props.specs.Entries.{place_of, property_part}

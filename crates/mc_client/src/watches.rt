@@ -1,15 +1,16 @@
 //! A client's observers, in order of observing.
 
-ghost use Rattle.std.specs.Prelude.{◌≡◌, ◌<◌, ◌+◌, ◌++◌, ◌∷◌, ℕ, IfOk, MatchOption, Bool, false, All, List, map, take, drop, length, slice_get};
-ghost use Rattle.mc_props.specs.Fields.{AgreeOutside};
-ghost use Rattle.mc_props.specs.declared.facts.Facts.{Facts};
-ghost use Rattle.mc_client.specs.Polls.{Finds, told_at};
+ghost use Rattle.std.specs.Prelude.{◌≡◌, ◌<◌, ◌+◌, ◌++◌, ◌∷◌, ℕ, IfOk, OnErr, MatchOption, Option, Bool, false, All, List, map, take, drop, length, slice_get};
+ghost use Rattle.mc_client.specs.Polls.{Finds, WatchesPolled, told_at};
 ghost use Rattle.mc_client.specs.Watches.{Fresh, IsPlaced, IsSettled, IsSure, cleared, flagged_for, present};
+ghost use Rattle.mc_client.specs.declared.watch.Watch.{Watch};
 
 use crate::watch::Watch;
 use mc_props::meanings::Meaning;
 use mc_props::{Facts, PropTable, Reads};
+use mc_ring::Event;
 use mc_value::{Format, NoMemory, Value};
+use std::alloc::Global;
 
 /// The place of an observer, and the format and the value that it has now.
 #[derive(Debug, Drop)]
@@ -53,6 +54,47 @@ fn news<F: Reads<M>, M: Meaning>(
         return Ok(None);
     }
     Ok(Some(shown))
+}
+
+/// The event that tells the first observer that was last given something else than it has now, or
+/// `None` if there is none. Nothing changes.
+pub fn next_change<F: Reads<M>, M: Meaning>(
+    alloc: Global,
+    watches: &[Watch],
+    table: &PropTable<F, M>,
+    facts: &Facts,
+) -> Result<Event, NoMemory>
+    requires { Fresh M.value table.now facts.now watches.now }
+    ensures { IfOk result (λ e. (ws : List Watch) × WatchesPolled (present M.value facts.now) watches.now e ws) }
+{
+    match first_changed(watches, table, facts)? {
+        Some(changed) => watches[changed.place].change(alloc, &changed.shown),
+        None => Ok(Event::None),
+    }
+}
+
+/// The same event, which the observer is then given; those that were read lose their flags.
+pub fn poll_watches<F: Reads<M>, M: Meaning>(
+    alloc: Global,
+    watches: &mut [Watch],
+    table: &PropTable<F, M>,
+    facts: &Facts,
+) -> Result<Event, NoMemory>
+    requires { Fresh M.value table.now facts.now watches.old }
+    ensures value { IfOk result (λ e. WatchesPolled (present M.value facts.now) watches.old e watches.new) }
+    ensures err { OnErr result (watches.new ≡ watches.old) }
+{
+    match first_changed(watches, table, facts)? {
+        Some(changed) => {
+            let event = watches[changed.place].change(alloc, &changed.shown)?;
+            tell(watches, changed);
+            Ok(event)
+        }
+        None => {
+            clear_flags(watches);
+            Ok(Event::None)
+        }
+    }
 }
 
 /// Notes that the fields of a mask have changed.

@@ -35,7 +35,7 @@ stands_at now ws c f d = get_or_from_slice_get ws c.place f.0 d f.1.stands
 
 -- ---- a fresh client stays fresh
 
-of_one : (P : Watch → Type 0) (ws : List Watch) (place : ℕ) (w : Watch) → slice_get ws place ≡ Some w → All P ws → P w
+pub of_one : (P : Watch → Type 0) (ws : List Watch) (place : ℕ) (w : Watch) → slice_get ws place ≡ Some w → All P ws → P w
 of_one P ws place w e all = subst P (get_or_from_slice_get ws place w w e) (All-get_or P ws place w (slice_get_within ws place w e) all)
 
 pub stays_fresh : (stated : ℕ → Facts → Reading) (entries : List PropEntry) (facts : Facts) (ws : List Watch) (e : Event) (ws' : List Watch)

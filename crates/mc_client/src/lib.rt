@@ -5,11 +5,11 @@
 //! `specs/Client.antt`; a poll's answer stands in `specs/Polls.antt`.
 #![tactic(auto)]
 
-// mod client;
+mod client;
 mod refusal;
 mod watch;
 mod watches;
 
-// pub use client::Client;
+pub use client::Client;
 pub use mc_value::NoMemory;
 pub use refusal::{ClientError, Pushed};

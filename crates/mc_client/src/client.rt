@@ -10,6 +10,7 @@ ghost use Rattle.mc_props.specs.declared.entries.PropEntry.{PropEntry};
 ghost use Rattle.mc_props.specs.declared.facts.Facts.{Facts};
 ghost use Rattle.mc_props.specs.declared.reading.Reading.{Reading};
 ghost use Rattle.mc_client.specs.Client.{ClientState, after_flag, after_observe, after_push_of, after_reply_of, after_request, after_return, after_switch, after_unobserve, can_switch, is_reply, new_client, push_answer_of};
+ghost use Rattle.mc_client.specs.Law.{KeepsLaw};
 ghost use Rattle.mc_client.specs.Polls.{Polled, WouldPoll};
 ghost use Rattle.mc_client.specs.Watches.{Fresh, IsPlaced, IsSettled, has_id, new_watch, present};
 ghost use Rattle.mc_client.specs.declared.refusal.ClientError.TheVariants.{InvalidParameter};
@@ -55,9 +56,16 @@ impl Model for Client {
 impl Client {
     /// A client of this name that observes nothing and has switched nothing off. Its ring has room
     /// for `size` events and places set aside, from 1 to 100,000.
+    ///
+    /// Of every list of calls that follow, with their answers: each is at most one call of the ring,
+    /// of which the ring's law holds. So polls give events in the order in which they were kept, a
+    /// reply that was accepted was polled or is held, each accepted request has its place until its
+    /// reply comes, and an overflow is polled between an event that was dropped and the next that
+    /// is kept.
     pub fn new(alloc: Global, name: Text, size: u32) -> Result<Client, RingError>
         ensures bad_size { (result ≡ Err BadSize) ↔ ((size ≡ 0) ⊎ (100000 < size)) }
         ensures made { IfOk result (λ c. c ≡ new_client name size) }
+        ensures law { IfOk result (λ c. KeepsLaw size c) }
     {
         let ring = Ring::new(alloc, size)?;
         Ok(Client {

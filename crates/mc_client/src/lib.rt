@@ -5,11 +5,13 @@
 //! `specs/Client.antt`; a poll's answer stands in `specs/Polls.antt`.
 #![tactic(auto)]
 
+mod calls;
 mod client;
 mod refusal;
 mod watch;
 mod watches;
 
+pub use calls::{ClientAnswer, ClientCall};
 pub use client::Client;
 pub use mc_value::NoMemory;
 pub use refusal::{ClientError, Pushed};

@@ -8,5 +8,6 @@ pub returns-clause-fresh : goal.returns-clause-fresh
 returns-clause-fresh g c = λ f f' outside h.
     let entries = c.args.table.now in
     let stated = g.M.Meaning.value in
-    subst (λ (s : ClientState). Fresh stated entries f' s.watches) (sym c.flag_all.ensures)
+    let goes : ClientState → Type 0 = λ s. Fresh stated entries f' s.watches in
+    subst goes (sym c.flag_all.ensures)
       (fresh_for stated entries c.entries-entries.ensures.fit.masked c.args.mask f f' outside c.args.self.now.watches h)

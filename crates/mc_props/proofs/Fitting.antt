@@ -1,6 +1,6 @@
 -- The entries of the properties are those of a table.
 use Rattle.std.proofs.Common.{◌≡◌, ℕ, zero, suc, ◌<◌, ◌^◌, Bool, true, false, not, ◌&&◌, if◌then◌else◌, List, [], ◌∷◌, map, length, Option, Some, None, refl, ap, sym, ◌∙◌, arith, rules, lit<}
-use Rattle.std.specs.List.{slice_get, IsDistinct, All}
+use Rattle.std.specs.List.{slice_get}
 use Rattle.std.specs.Option.{option_map}
 use Rattle.mc_packet.specs.declared.choice.Kind.{Kind}
 use Rattle.mc_props.specs.Cache.{cache_map}
@@ -62,10 +62,5 @@ masked k e is f g agree =
     let found : (p : Property) × (slice_get properties k ≡ Some p) × (e ≡ entry_of p) = entry_at properties k e is in
     rw (found.1) (same_reading found.0 f g (let mask : e.mask ≡ property_mask found.0 = ap (λ (x : PropEntry). x.mask) found.2 in rw mask at agree))
 
--- the names are told apart by a test that computes
-few : length standard_table < 2 ^ 32
-few = lit< tt
-
 pub standard_fits : AreEntries standard_of standard_table
-unfolding IsDistinct
-standard_fits = record { few = few; distinct = search rules; settings = search rules; masked = masked }
+standard_fits = record { few = lit< tt; distinct = refl; settings = refl; masked = masked }

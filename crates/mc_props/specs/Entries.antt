@@ -1,6 +1,6 @@
 -- The entries of a table of properties: names, masks, and what a name asks for.
-use Rattle.std.specs.Prelude.{◌≡◌, ℕ, ◌<◌, ◌^◌, Bool, true, ◌==◌, ◌||◌, IsTrue, List, map, length, slice_get, position, All, codes, Option, Some}
-use Rattle.std.specs.List.{IsDistinct, before_first, after_first}
+use Rattle.std.specs.Prelude.{◌≡◌, ℕ, ◌<◌, ◌^◌, Bool, true, not, ◌==◌, ◌&&◌, ◌||◌, IsTrue, List, [], ◌∷◌, map, length, slice_get, position, codes, Option, Some}
+use Rattle.std.specs.List.{before_first, after_first, list_all, list_any}
 use Rattle.std.specs.Str.{bytes_eq}
 use Rattle.mc_props.specs.Fields.{Agree}
 use Rattle.mc_props.specs.declared.facts.Facts.{Facts}
@@ -30,12 +30,21 @@ is_setting name = bytes_eq name (codes "pause") || (bytes_eq name (codes "mute")
 abbrev pub Masked : (ℕ → Facts → Reading) → List PropEntry → Type 0
 Masked value entries = (k : ℕ) (e : PropEntry) → slice_get entries k ≡ Some e → (f g : Facts) → Agree e.mask f g → value k f ≡ value k g
 
+-- whether no two of these texts are the same
+abbrev pub all_differ : List (List ℕ) → Bool
+all_differ [] = true
+all_differ (s ∷ ss) = not (list_any (bytes_eq s) ss) && all_differ ss
+
 abbrev pub names_of : List PropEntry → List (List ℕ)
 names_of entries = map (λ (e : PropEntry). e.name) entries
+
+-- an entry may be set only if its name is one that may
+abbrev pub is_rightly_set : PropEntry → Bool
+is_rightly_set e = not e.writable || is_setting e.name
 
 -- what the entries of a table are, for the function that they state
 pub record AreEntries (value : ℕ → Facts → Reading) (entries : List PropEntry) : Type 0 where
   pub few : length entries < 2 ^ 32
-  pub distinct : IsDistinct bytes_eq (names_of entries)
-  pub settings : All (λ (e : PropEntry). e.writable ≡ true → is_setting e.name ≡ true) entries
+  pub distinct : IsTrue (all_differ (names_of entries))
+  pub settings : IsTrue (list_all is_rightly_set entries)
   pub masked : Masked value entries

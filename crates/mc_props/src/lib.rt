@@ -24,6 +24,7 @@ mod values;
 pub use entries::{PropEntries, PropEntry};
 pub use facts::Facts;
 pub use mc_value::NoMemory;
+pub use meanings::Meaning;
 pub use properties::{Property, standard_entries};
 pub use reading::Reading;
 pub use reads::Reads;

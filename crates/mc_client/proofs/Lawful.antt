@@ -1,19 +1,18 @@
 -- Every list of allowed calls of a new client keeps the law of its ring.
-use Rattle.std.proofs.Common.{◌≡◌, ℕ, ◌+◌, ◌-◌, ◌<◌, Bool, true, false, List, [], ◌∷◌, ◌++◌, length, drop, Option, Some, None, refl, ap, subst, sym, ◌∙◌, inl, inr, arith}
+use Rattle.std.proofs.Common.{◌≡◌, ℕ, ◌<◌, Bool, true, false, List, [], ◌∷◌, ◌++◌, Some, refl, ap, subst, sym, ◌∙◌, inl, inr}
 use Rattle.std.specs.Prelude.{All, IsTrue, slice_get}
 use Rattle.std.proofs.lemmas.Bool.{cases_Bool}
-use Rattle.std.proofs.lemmas.List.Elements.{All-append, All-cons, All-drop, All-head, All-nil, All-push}
+use Rattle.std.proofs.lemmas.List.Elements.{All-drop, All-head, All-nil, All-push}
 use Rattle.mc_ring.specs.Event.{enters_ring}
 use Rattle.mc_ring.specs.Ring.{RingState, after_pop, after_push, after_reply, after_reserve, after_unreserve, full_of, is_full, new_ring, oldest, push_answer, reserve_answer, with_choked}
 use Rattle.mc_ring.specs.Law.{IsLawful, KeepsLaw as RingKeepsLaw, after as ring_after, Runs as RingRuns, Told as RingTold, left_by as ring_left_by}
 use Rattle.mc_ring.specs.declared.event.Event.{Event}
 use Rattle.mc_ring.specs.declared.event.Event.TheVariants as event
-use Rattle.mc_ring.specs.declared.ring.Pushed.TheVariants as fate
 use Rattle.mc_ring.specs.declared.calls.RingCall.TheVariants as ring
 use Rattle.mc_ring.specs.declared.calls.RingAnswer.TheVariants as told
 use Rattle.mc_client.specs.Client.{ClientState, after_observe, after_switch, as_pushed, is_off, is_reply}
 use Rattle.mc_client.specs.Law.{Changes, FitsRing, IsStep, KeepsLaw, PollStep, Runs, Told, left_by, requested, ring_answered, ring_call, ring_calls, ring_polled, ring_pushed, ring_requested}
-use Rattle.mc_client.specs.Polls.{PolledBy, WatchesPolled, change_of}
+use Rattle.mc_client.specs.Polls.{PolledBy, WatchesPolled}
 use Rattle.mc_client.specs.Watches.{Shown, new_watch}
 use Rattle.mc_client.specs.declared.watch.Watch.{Watch}
 use Rattle.mc_props.specs.declared.entries.PropEntry.{PropEntry}

@@ -1,7 +1,7 @@
 -- The law over every list of calls of a client: each call is at most one call of its ring, of which the ring's law holds.
-use Rattle.std.specs.Prelude.{◌≡◌, ℕ, ◌<◌, Bool, true, IsTrue, List, [], ◌∷◌, ◌++◌, length, filter, All, Some, Result, Ok, Err}
+use Rattle.std.specs.Prelude.{◌≡◌, ℕ, ◌<◌, true, IsTrue, List, [], ◌∷◌, ◌++◌, length, filter, All, Some, Result, Ok, Err}
 use Rattle.mc_ring.specs.Event.{enters_ring}
-use Rattle.mc_ring.specs.Ring.{RingState, reserve_answer}
+use Rattle.mc_ring.specs.Ring.{reserve_answer}
 use Rattle.mc_ring.specs.Law.{Told as RingTold, IsLawful}
 use Rattle.mc_ring.specs.declared.event.Event.{Event}
 use Rattle.mc_ring.specs.declared.event.Event.TheVariants as event

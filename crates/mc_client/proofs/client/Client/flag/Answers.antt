@@ -1,4 +1,4 @@
-use Rattle.std.proofs.Common.{◌≡◌, ap, subst, sym}
+use Rattle.std.proofs.Common.{subst, sym}
 use Rattle.mc_client.specs.Client.{ClientState}
 use Rattle.mc_client.specs.Watches.{Fresh}
 use Rattle.mc_client.proofs.Flags.{fresh_for}

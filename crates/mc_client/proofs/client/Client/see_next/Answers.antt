@@ -1,4 +1,4 @@
-use Rattle.std.proofs.Common.{◌≡◌, Some, None, List, Bool, true, false, IfOk, ap, sym, subst, ◌∙◌}
+use Rattle.std.proofs.Common.{◌≡◌, Some, None, List, true, false, IfOk, ap, sym, subst, ◌∙◌}
 use Rattle.mc_ring.specs.Ring.{RingState, oldest}
 use Rattle.mc_client.specs.Client.{ClientState}
 use Rattle.mc_client.specs.Polls.{WatchesPolled}

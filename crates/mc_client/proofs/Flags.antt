@@ -41,7 +41,7 @@ fresh_for stated entries masked mask f g outside ws h =
     record {
       placed = All-map (IsPlaced entries) flagged ws h.placed;
       sure = All-map Sure flagged ws (λ k d within.
-        stays_sure stated entries masked mask f g outside (slice_index_or ws k d) (h.placed k d within) (h.sure k d within));
+          stays_sure stated entries masked mask f g outside (slice_index_or ws k d) (h.placed k d within) (h.sure k d within));
     }
 
 pub fresh_without : (stated : ℕ → Facts → Reading) (entries : List PropEntry) (facts : Facts) (id : ℕ) (ws : List Watch)

@@ -48,12 +48,12 @@ stays_fresh stated entries facts ws e ws' h (inl t) =
     let back = drop (t.place + 1) ws in
     let w = with_given t.watch (now t.watch) in
     let placed : All Placed (told_at ws t.place t.watch (now t.watch)) =
-      All-append Placed (map cleared front) (w ∷ back) (All-map Placed cleared front (All-take Placed t.place ws h.placed))
-        (All-cons Placed w back (of_one Placed ws t.place t.watch t.first.stands h.placed) (All-drop Placed (t.place + 1) ws h.placed)) in
+    All-append Placed (map cleared front) (w ∷ back) (All-map Placed cleared front (All-take Placed t.place ws h.placed))
+    (All-cons Placed w back (of_one Placed ws t.place t.watch t.first.stands h.placed) (All-drop Placed (t.place + 1) ws h.placed)) in
     let sure : All Sure (told_at ws t.place t.watch (now t.watch)) =
-      All-append Sure (map cleared front) (w ∷ back)
-        (All-map Sure cleared front (All-weaker (IsSettled now) (λ x. Sure (cleared x)) (λ x s f. s) front t.first.before))
-        (All-cons Sure w back (λ f. refl) (All-drop Sure (t.place + 1) ws h.sure)) in
+    All-append Sure (map cleared front) (w ∷ back)
+    (All-map Sure cleared front (All-weaker (IsSettled now) (λ x. Sure (cleared x)) (λ x s f. s) front t.first.before))
+    (All-cons Sure w back (λ f. refl) (All-drop Sure (t.place + 1) ws h.sure)) in
     record { placed = subst (All Placed) (sym t.after) placed; sure = subst (All Sure) (sym t.after) sure }
 stays_fresh stated entries facts ws e ws' h (inr q) =
     let now = present stated facts in

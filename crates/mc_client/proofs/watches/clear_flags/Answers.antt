@@ -14,4 +14,4 @@ loop-watch-preserved c =
     let e : w ≡ get_or ws i w = c.watch-item.is in
     let within : i < length xs = omega arith in
     subst (λ (x : Watch). set ws i (cleared x) ≡ map cleared (take (i + 1) xs) ++ drop (i + 1) xs) e
-      (map_over_more cleared xs ws i w within c.loop-watch.invariant e)
+    (map_over_more cleared xs ws i w within c.loop-watch.invariant e)

@@ -22,7 +22,7 @@ loop-watch-preserved g c =
     let kept : IsPlaced table c.flag_watch.new.watch = subst (IsPlaced table) (sym is) placed in
     let one : set ws i (flagged w) ≡ map flagged (take (i + 1) xs) ++ drop (i + 1) xs = map_over_more flagged xs ws i w within c.loop-watch.invariant.flagged e in
     let here : set ws i (flagged (get_or ws i w)) ≡ map flagged (take (i + 1) xs) ++ drop (i + 1) xs =
-      subst (λ (x : Watch). set ws i (flagged x) ≡ map flagged (take (i + 1) xs) ++ drop (i + 1) xs) e one in
+    subst (λ (x : Watch). set ws i (flagged x) ≡ map flagged (take (i + 1) xs) ++ drop (i + 1) xs) e one in
     record {
       placed = All-set (IsPlaced table) ws i c.flag_watch.new.watch kept c.loop-watch.invariant.placed;
       flagged = subst (λ (x : Watch). set ws i x ≡ map flagged (take (i + 1) xs) ++ drop (i + 1) xs) (sym is) here;

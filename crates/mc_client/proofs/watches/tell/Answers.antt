@@ -25,4 +25,4 @@ returns-in-len1-up c = λ w e.
     let back : rest ≡ drop place ws = c.split_at_mut-before.ensures.back in
     let front = c.clear_flags.ensures in
     put c.clear_flags.new.watches rest (drop (place + 1) ws) w c.index-rest-0.result shown (back ∙ from_here ws place w e)
-      ∙ ap (λ (f : List Watch). f ++ with_given w shown ∷ drop (place + 1) ws) (front ∙ ap (λ (f : List Watch). map cleared f) c.split_at_mut-before.ensures.front)
+    ∙ ap (λ (f : List Watch). f ++ with_given w shown ∷ drop (place + 1) ws) (front ∙ ap (λ (f : List Watch). map cleared f) c.split_at_mut-before.ensures.front)

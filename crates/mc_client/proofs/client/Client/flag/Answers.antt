@@ -10,4 +10,4 @@ returns-clause-fresh g c = λ f f' outside h.
     let stated = g.M.Meaning.value in
     let goes : ClientState → Type 0 = λ s. Fresh stated entries f' s.watches in
     subst goes (sym c.flag_all.ensures)
-      (fresh_for stated entries c.entries-entries.ensures.fit.masked c.args.mask f f' outside c.args.self.now.watches h)
+    (fresh_for stated entries c.entries-entries.ensures.fit.masked c.args.mask f f' outside c.args.self.now.watches h)

@@ -31,4 +31,4 @@ returns g c =
     let free : s.ring.choked ≡ false = sym (c.if-choked.ensures.value ∙ ap (λ (r : RingState). r.choked) ring) in
     let watches : c.deref.result.now ≡ s.watches = c.deref.ensures.value ∙ ap (λ (x : ClientState). x.watches) c.self.view_is in
     would_change now s none free c.next_change.result
-      (subst (λ (ws : List Watch). IfOk c.next_change.result (λ e. (x : List Watch) × WatchesPolled now ws e x)) watches c.next_change.ensures)
+    (subst (λ (ws : List Watch). IfOk c.next_change.result (λ e. (x : List Watch) × WatchesPolled now ws e x)) watches c.next_change.ensures)

@@ -1,0 +1,4 @@
+pub mod Clients
+pub mod Flags
+pub mod Lawful
+pub mod Polling

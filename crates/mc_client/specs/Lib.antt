@@ -1,0 +1,4 @@
+pub mod Client
+pub mod Law
+pub mod Polls
+pub mod Watches

@@ -1,20 +1,13 @@
 -- The entries of the properties are those of a table.
-use Rattle.std.proofs.Common.{◌≡◌, ℕ, zero, suc, ◌<◌, ◌^◌, Bool, true, false, not, ◌&&◌, if◌then◌else◌, List, [], ◌∷◌, map, length, Option, Some, None, refl, ap, sym, ◌∙◌, arith, rules, lit<}
+use Rattle.std.proofs.Common.{◌≡◌, ℕ, zero, suc, List, [], ◌∷◌, map, Some, refl, ap, lit<}
 use Rattle.std.specs.List.{slice_get}
-use Rattle.std.specs.Option.{option_map}
-use Rattle.mc_packet.specs.declared.choice.Kind.{Kind}
-use Rattle.mc_props.specs.Cache.{cache_map}
-use Rattle.mc_props.specs.Entries.{AreEntries, Masked, names_of, is_setting}
-use Rattle.mc_props.specs.Fields.{Agree, AgreeOn, has_field}
-use Rattle.mc_props.specs.Standard.{entry_of, file_part, has_track, properties, property_mask, reading_at, reading_of, standard_of, standard_table, text_reading, time_reading}
-use Rattle.mc_props.specs.Tracks.{selected_of, track_list}
+use Rattle.mc_props.specs.Entries.{AreEntries, Masked}
+use Rattle.mc_props.specs.Fields.{Agree}
+use Rattle.mc_props.specs.Standard.{entry_of, properties, property_mask, reading_of, standard_of, standard_table}
 use Rattle.mc_props.specs.declared.facts.Facts.{Facts}
 use Rattle.mc_props.specs.declared.entries.PropEntry.{PropEntry}
 use Rattle.mc_props.specs.declared.properties.Property.{Property}
 use Rattle.mc_props.specs.declared.properties.Property.TheVariants as property
-use Rattle.mc_props.specs.declared.reading.Reading.{Reading}
-use Rattle.mc_props.specs.declared.reading.Reading.TheVariants.{Is, Unavailable}
-use Rattle.mc_value.specs.declared.value.Value.TheVariants as value
 
 -- each property reads the fields of its mask alone
 same_reading : (p : Property) (f g : Facts) → Agree (property_mask p) f g → reading_of p f ≡ reading_of p g

@@ -4,7 +4,7 @@ use Rattle.std.proofs.lemmas.Option.{slice_get_cases}
 use Rattle.std.specs.List.{slice_get}
 use Rattle.mc_value.specs.declared.value.Format.{Format}
 use Rattle.mc_props.specs.Entries.{Masked, path_part}
-use Rattle.mc_props.specs.Fields.{Agree, AgreeOn, AgreeOutside, both_have, has_field, share_field}
+use Rattle.mc_props.specs.Fields.{Agree, AgreeOutside, both_have, has_field, share_field}
 use Rattle.mc_props.specs.Readings.{cut, given_in, mask_at, mask_of, present_of, shown}
 use Rattle.mc_props.specs.declared.facts.Facts.{Facts}
 use Rattle.mc_props.specs.declared.entries.PropEntry.{PropEntry}

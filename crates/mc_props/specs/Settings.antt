@@ -1,5 +1,5 @@
 -- What setting a property writes, or why it is refused.
-use Rattle.std.specs.Prelude.{◌≡◌, ℕ, ℤ, pos, negsuc, Bool, true, false, if◌then◌else◌, List, codes, Option, Some, None, Result, Ok, Err, slice_get}
+use Rattle.std.specs.Prelude.{ℕ, ℤ, pos, negsuc, Bool, false, if◌then◌else◌, List, codes, Option, Some, None, Result, Ok, Err, slice_get}
 use Rattle.std.specs.Str.{bytes_eq}
 use Rattle.mc_value.specs.declared.value.Value.{Value, out-Value}
 use Rattle.mc_value.specs.declared.value.Value.TheOpen.{Value-F}

@@ -1,8 +1,7 @@
 -- The properties of a player, in the order of their entries.
-use Rattle.std.specs.Prelude.{◌≡◌, ℕ, Bool, true, false, not, ◌&&◌, if◌then◌else◌, ◌==◌, ◌||◌, ℤ, List, [], ◌∷◌, map, codes, slice_get, Option, Some, None}
+use Rattle.std.specs.Prelude.{ℕ, Bool, true, false, not, ◌&&◌, if◌then◌else◌, ◌==◌, ◌||◌, ℤ, List, [], ◌∷◌, map, codes, slice_get, Option, Some, None}
 use Rattle.std.specs.List.{list_any}
 use Rattle.std.specs.Option.{is_some, option_map}
-use Rattle.mc_value.specs.declared.value.Value.{Value}
 use Rattle.mc_value.specs.declared.value.Value.TheVariants as value
 use Rattle.mc_packet.specs.declared.choice.Choice.{Choice}
 use Rattle.mc_packet.specs.declared.choice.Kind.{Kind}

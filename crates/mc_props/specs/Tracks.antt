@@ -1,5 +1,5 @@
 -- The list of tracks as a value, and the selected track of a kind.
-use Rattle.std.specs.Prelude.{ℕ, zero, suc, ℤ, pos, ◌-◌, ◌^◌, min, Bool, false, if◌then◌else◌, ◌==◌, List, [], ◌∷◌, ◌++◌, length, map, position, codes, Option, Some, None}
+use Rattle.std.specs.Prelude.{ℕ, suc, pos, ◌-◌, ◌^◌, min, Bool, false, ◌==◌, List, [], ◌∷◌, ◌++◌, map, position, codes, Option, Some, None}
 use Rattle.std.specs.Option.{option_map, unwrap_or}
 use Rattle.mc_value.specs.declared.value.Value.{Value}
 use Rattle.mc_value.specs.declared.value.Value.TheVariants as value

@@ -1,7 +1,7 @@
-use Rattle.std.proofs.Common.{◌≡◌, ◌∙◌, ℕ, List, [], ◌∷◌, ◌++◌, ap, codes, refl}
+use Rattle.std.proofs.Common.{◌≡◌, ◌∙◌, ℕ, List, [], ◌∷◌, ◌++◌, ap, codes}
 use Rattle.mc_value.specs.declared.value.Value.{Value}
 use Rattle.mc_value.specs.declared.value.Value.TheVariants as value
-use Rattle.mc_props.specs.Cache.{cache_map, ends_of, octets_of, range_maps}
+use Rattle.mc_props.specs.Cache.{ends_of, octets_of, range_maps}
 use Rattle.mc_props.proofs.cache_value.cache_map.Goals as goal
 
 abbrev Pair : Type 0

@@ -1,4 +1,4 @@
-use Rattle.std.proofs.Common.{◌≡◌, subst, sym, rules, List}
+use Rattle.std.proofs.Common.{◌≡◌, subst, rules, List}
 use Rattle.mc_props.specs.Entries.{AreEntries}
 use Rattle.mc_props.specs.Standard.{standard_of, standard_table}
 use Rattle.mc_props.specs.declared.entries.PropEntry.{PropEntry}

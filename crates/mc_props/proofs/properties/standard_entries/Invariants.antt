@@ -1,4 +1,4 @@
-use Rattle.std.proofs.Common.{◌≡◌, length, map, take}
+use Rattle.std.proofs.Common.{◌≡◌, map, take}
 use Rattle.mc_props.specs.Standard.{entry_of, properties}
 use Rattle.mc_props.proofs.properties.standard_entries.Given as goal
 

@@ -1,6 +1,6 @@
 use Rattle.std.proofs.Common.{rules, tests}
 use Rattle.std.proofs.lemmas.Iterator.{YieldsList-from_slice}
-use Rattle.std.proofs.lemmas.Iterator.Consumers.{YieldsList-at, YieldsList-from_filter, nth_from_yields_List}
+use Rattle.std.proofs.lemmas.Iterator.Consumers.{YieldsList-from_filter, nth_from_yields_List}
 use Rattle.mc_tracks.specs.TrackList.{is_of}
 use Rattle.mc_tracks.specs.declared.track.Track.{Track}
 use Rattle.mc_props.proofs.track_values.nth_of_kind.Goals as goal

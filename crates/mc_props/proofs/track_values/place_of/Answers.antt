@@ -1,8 +1,7 @@
 use Rattle.std.proofs.Common.{rules, tests, ◌==◌}
 use Rattle.std.proofs.lemmas.Iterator.{YieldsList-from_slice}
-use Rattle.std.proofs.lemmas.Iterator.Consumers.{YieldsList-at, YieldsList-from_filter}
+use Rattle.std.proofs.lemmas.Iterator.Consumers.{YieldsList-from_filter}
 use Rattle.std.proofs.lemmas.Iterator.Search.{position_from_yields_List}
-use denote.Ref.{Bor}
 use Rattle.mc_tracks.specs.TrackList.{is_of}
 use Rattle.mc_tracks.specs.declared.track.Track.{Track}
 use Rattle.mc_props.proofs.track_values.place_of.Goals as goal

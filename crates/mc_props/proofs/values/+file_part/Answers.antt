@@ -1,4 +1,4 @@
-use Rattle.std.proofs.Common.{◌≡◌, ◌∙◌, ap}
+use Rattle.std.proofs.Common.{◌∙◌, ap}
 use Rattle.mc_props.specs.Standard.{file_part}
 use Rattle.mc_props.proofs.Slashes.{behind_slash, without_slash}
 use Rattle.mc_props.proofs.values.+file_part.Goals as goal

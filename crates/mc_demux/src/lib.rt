@@ -1,0 +1,10 @@
+//! A demuxer over a seekable cache.
+#![tactic(auto)]
+
+mod answer;
+mod job;
+mod waiting;
+
+pub use answer::{DemuxError, Peek, Reading, Selected, Taken};
+pub use job::Job;
+pub use waiting::{Failure, Switch, Target};

@@ -10,7 +10,7 @@ use Rattle.mc_range.specs.declared.queues.Queues.{Queues}
 use Rattle.mc_range.specs.Range.{AtMark, StartsAt, QueueIn, IsRange, place_at}
 use Rattle.mc_range.proofs.Places.{lane_upto}
 
-new_queue : (track : ℕ) (at : ℕ) (q : QueueState) → IsNew track (place_at at) q → IsQueue q
+pub new_queue : (track : ℕ) (at : ℕ) (q : QueueState) → IsNew track (place_at at) q → IsQueue q
 new_queue track at q n = record {
   rise = rw (n.none_yet, n.from_is, n.to_is) (omega arith);
   fits = let z : weights q.packets ≡ 0 = rw n.none_yet refl in omega arith;

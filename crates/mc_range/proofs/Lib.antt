@@ -6,3 +6,11 @@ pub mod Shapes
 pub mod Found
 pub mod Films
 pub mod Unions
+pub mod Selecting
+pub mod Touching
+pub mod Owned
+pub mod Telling
+pub mod Fed
+pub mod Joined
+pub mod Chosen
+pub mod Retracked

@@ -57,7 +57,7 @@ apart_right k (Some a) (Some b) n is = let e = eqb-true a.track k is in other a.
     other : (i j k : ℕ) → (i == j) ≡ false → i ≡ k → (j == k) ≡ false
     other i j k n e = ne_eqb j k (λ z. eqb-false i j n (e ∙ sym z))
 
-apart_left : (k : ℕ) (a b : Option QueueState) → AreApart a b → is_of k b ≡ true → is_of k a ≡ false
+pub apart_left : (k : ℕ) (a b : Option QueueState) → AreApart a b → is_of k b ≡ true → is_of k a ≡ false
 apart_left k None b n is = refl
 apart_left k (Some a) None n is = absurd (cc)
 apart_left k (Some a) (Some b) n is = let e = eqb-true b.track k is in other a.track b.track k n e

@@ -90,14 +90,14 @@ is_it t m k (Some q) i e =
     some : (i j : ℕ) → Some i ≡ Some j → i ≡ j
     some i j e = cc
 
-not_it : (t u : Option ℕ) (m : Mark) (k : ℕ) (o : Option QueueState) → is_other t u ≡ true → QueueIn t m o → u ≡ Some k → own k o ≡ None
+pub not_it : (t u : Option ℕ) (m : Mark) (k : ℕ) (o : Option QueueState) → is_other t u ≡ true → QueueIn t m o → u ≡ Some k → own k o ≡ None
 not_it t u m k None d i e = refl
 not_it t u m k (Some q) d i e =
     let f = i.0 in
     let n : (q.track == k) ≡ false = not-true (q.track == k) (rw (f, e) at d) in
     rw n refl
 
-other_way : (t u : Option ℕ) → is_other t u ≡ true → is_other u t ≡ true
+pub other_way : (t u : Option ℕ) → is_other t u ≡ true → is_other u t ≡ true
 other_way None None d = refl
 other_way None (Some b) d = refl
 other_way (Some a) None d = refl
@@ -105,11 +105,11 @@ other_way (Some a) (Some b) d =
     let n = not-true (a == b) d in
     rw (ne_eqb b a (λ z. eqb-false a b n (sym z))) refl
 
-or_none : (a : Option QueueState) → or_else a None ≡ a
+pub or_none : (a : Option QueueState) → or_else a None ≡ a
 or_none (Some x) = refl
 or_none None = refl
 
-video_is : (r : RangeState) (k : ℕ) → IsRange r → r.set.video ≡ Some k → queue_of k r.queues ≡ r.queues.video
+pub video_is : (r : RangeState) (k : ℕ) → IsRange r → r.set.video ≡ Some k → queue_of k r.queues ≡ r.queues.video
 video_is r k i e =
     let one = and_parts (is_other r.set.video r.set.audio) _ i.distinct in
     let two = and_parts (is_other r.set.video r.set.sub) (is_other r.set.audio r.set.sub) one.1 in
@@ -118,7 +118,7 @@ video_is r k i e =
     let s = not_it r.set.sub r.set.video r.mark k r.queues.sub (other_way r.set.video r.set.sub two.0) i.held.sub e in
     rw (v, a, s) (or_none r.queues.video)
 
-audio_is : (r : RangeState) (k : ℕ) → IsRange r → r.set.audio ≡ Some k → queue_of k r.queues ≡ r.queues.audio
+pub audio_is : (r : RangeState) (k : ℕ) → IsRange r → r.set.audio ≡ Some k → queue_of k r.queues ≡ r.queues.audio
 audio_is r k i e =
     let one = and_parts (is_other r.set.video r.set.audio) _ i.distinct in
     let two = and_parts (is_other r.set.video r.set.sub) (is_other r.set.audio r.set.sub) one.1 in
@@ -127,7 +127,7 @@ audio_is r k i e =
     let s = not_it r.set.sub r.set.audio r.mark k r.queues.sub (other_way r.set.audio r.set.sub two.1) i.held.sub e in
     rw (v, a, s) (or_none r.queues.audio)
 
-sub_is : (r : RangeState) (k : ℕ) → IsRange r → r.set.sub ≡ Some k → queue_of k r.queues ≡ r.queues.sub
+pub sub_is : (r : RangeState) (k : ℕ) → IsRange r → r.set.sub ≡ Some k → queue_of k r.queues ≡ r.queues.sub
 sub_is r k i e =
     let one = and_parts (is_other r.set.video r.set.audio) _ i.distinct in
     let two = and_parts (is_other r.set.video r.set.sub) (is_other r.set.audio r.set.sub) one.1 in
@@ -138,7 +138,7 @@ sub_is r k i e =
 
 -- ---- what touches, meets
 
-abbrev both_in : Option QueueState → Option QueueState → Bool
+abbrev pub both_in : Option QueueState → Option QueueState → Bool
 both_in a b = on_span (option_map span_of a) (λ s. on_span (option_map span_of b) (λ t. nat_le s.from t.to && nat_le t.from s.to))
 
 some_meet : (t u : Option ℕ) (m n : Mark) (k : ℕ) (a b : Option QueueState) → QueueIn t m a → QueueIn u n b → t ≡ Some k → u ≡ Some k
@@ -159,7 +159,7 @@ none_meet m n None None i j = tt
 none_meet m n None (Some o) i j = absurd (let e = j.0 in cc)
 none_meet m n (Some q) b i j = absurd (let e = i.0 in cc)
 
-same_some : (t u : Option ℕ) (k : ℕ) → is_same t u ≡ true → t ≡ Some k → u ≡ Some k
+pub same_some : (t u : Option ℕ) (k : ℕ) → is_same t u ≡ true → t ≡ Some k → u ≡ Some k
 same_some None u k s e = absurd (cc)
 same_some (Some a) None k s e = absurd (cc)
 same_some (Some a) (Some b) k s e = ap (λ x. Some x) (sym (eqb-true a b s)) ∙ e

@@ -2,3 +2,5 @@ pub mod Range
 pub mod Growing
 pub mod Serving
 pub mod Joining
+pub mod Tracks
+pub mod Filmed

@@ -14,8 +14,13 @@ mod range;
 mod serving;
 #[cfg(test)]
 mod tests;
+mod tracks;
 
-pub use law::served_films;
+pub use law::{
+    added_ranges, begun_ranges, fed_ranges, joined_ranges, retracked_ranges, served_films,
+    touching_spans,
+};
 pub use mc_packet::NoMemory;
 pub use mc_queue::UnionError;
 pub use range::Range;
+pub use tracks::spans_touch;

@@ -1,13 +1,9 @@
 ghost use Rattle.std.specs.Prelude.{◌≡◌, ◌≤◌, ◌<◌, IfSome, IsSomeAnd, OnErr, OnOk};
 ghost use Rattle.std.specs.Option.{option_copied};
-ghost use Rattle.mc_journal.specs.Choices.{each_of, passes};
-ghost use Rattle.mc_journal.specs.Ranges.{on_span};
-ghost use Rattle.std.specs.Prelude.{nat_le, ◌&&◌};
-ghost use Rattle.mc_range.specs.Range.{AreRoomier, Roomier, StartsAt, is_of, own, queue_of, spans_of, weight_in, weight_of_all};
-ghost use Rattle.mc_journal.specs.Films.{rank};
+ghost use Rattle.mc_range.specs.Range.{AreRoomier, Roomier, StartsAt, is_of, own, queue_of, weight_in, weight_of_all};
 
-use crate::place::{is_upto, place_at};
-use mc_packet::{Choice, NoMemory, TrackNo};
+use crate::place::place_at;
+use mc_packet::{NoMemory, TrackNo};
 use mc_queue::Queue;
 use std::alloc::Global;
 
@@ -109,33 +105,4 @@ pub(crate) fn weight_of_all(queues: &Queues) -> u128
 {
     weight_in(&queues.video) as u128
         + (weight_in(&queues.audio) as u128 + weight_in(&queues.sub) as u128)
-}
-
-fn touch_both(a: &Queue, b: &Queue) -> bool
-    ensures { result ≡ (nat_le (rank a.now.from) (rank b.now.to) && nat_le (rank b.now.from) (rank a.now.to)) }
-{
-    is_upto(a.from(), b.to()) && is_upto(b.from(), a.to())
-}
-
-/// Whether both have a queue of a track, if one is named, and each of the two begins where the
-/// other reaches or before.
-fn touch(queues: &Queues, others: &Queues, track: Option<TrackNo>) -> bool
-    ensures { result ≡ passes track (λ k. on_span (spans_of queues.now k) (λ a. on_span (spans_of others.now k) (λ b. nat_le a.from b.to && nat_le b.from a.to))) }
-{
-    let Some(track) = track else {
-        return true;
-    };
-    match (find(queues, track), find(others, track)) {
-        (Some(a), Some(b)) => touch_both(a, b),
-        _ => false,
-    }
-}
-
-/// The same for each track of a set.
-pub(crate) fn touch_all(queues: &Queues, others: &Queues, set: Choice) -> bool
-    ensures { result ≡ each_of set (λ k. on_span (spans_of queues.now k) (λ a. on_span (spans_of others.now k) (λ b. nat_le a.from b.to && nat_le b.from a.to))) }
-{
-    touch(queues, others, set.video)
-        && touch(queues, others, set.audio)
-        && touch(queues, others, set.sub)
 }

@@ -1,18 +1,20 @@
-ghost use Rattle.std.specs.Prelude.{◌≡◌, nat_lt, if◌then◌else◌, ◌≤◌, ◌<◌, ◌+◌, ◌^◌, true, IfOk, IfSome, IfErr, IsSomeAnd, OnErr, OnOk};
+ghost use Rattle.std.specs.Prelude.{◌≡◌, Some, None, nat_lt, if◌then◌else◌, ◌≤◌, ◌<◌, ◌+◌, ◌^◌, true, IfOk, IfSome, IfErr, IsSomeAnd, OnErr, OnOk};
 ghost use Rattle.mc_journal.specs.Choices.{is_distinct, or_else};
 ghost use Rattle.mc_range.specs.Range.{AtMark, IsBegun, IsRange, IsRoomier, count, is_same, is_same_set, meets_range, queue_of, weight_of_all};
 ghost use Rattle.mc_range.specs.Growing.{IsFed, lacks_room, taker};
 ghost use Rattle.mc_range.specs.Serving.{heads_of};
 ghost use Rattle.mc_range.specs.Joining.{IsJoined, JoinRefused, greater};
+ghost use Rattle.mc_range.specs.Tracks.{IsAdded, count_of_all, intervals, queue_under, retracked, selected_under};
 ghost use Rattle.mc_packet.specs.Shape.{HasShape};
 ghost use Rattle.mc_queue.specs.Places.{weights};
 
 use crate::growing::extend;
 use crate::joining::join;
 use crate::place::place_at;
-use crate::queues::{Queues, find, reserve, start_queue, touch_all, weight_of_all};
+use crate::queues::{Queues, find, reserve, start_queue, weight_of_all};
 use crate::serving::serve;
-use mc_packet::{Choice, Chunk, Dir, Ending, Heads, Mark, NoMemory, Starts, TrackNo};
+use crate::tracks::{count_of_all, intervals, keep_queues, put_queue, spans_touch};
+use mc_packet::{Choice, Chunk, Dir, Ending, Heads, Kind, Mark, NoMemory, Spans, Starts, TrackNo};
 use mc_queue::UnionError;
 use std::alloc::Global;
 use std::marker::Model;
@@ -105,6 +107,23 @@ impl Range {
         weight_of_all(&self.queues)
     }
 
+    /// The number of all its packets.
+    pub fn packets(&self) -> u64
+        ensures value { result ≡ count_of_all self.now.queues }
+        ensures range { IsRange self.now }
+    {
+        count_of_all(&self.queues)
+    }
+
+    /// What it holds of each kind: the places from which and up to which its queue has all packets,
+    /// `None` for a kind without a queue.
+    pub fn spans(&self) -> Spans
+        ensures value { result ≡ intervals self.now.queues }
+        ensures range { IsRange self.now }
+    {
+        intervals(&self.queues)
+    }
+
     /// Makes room for so many more packets of a track than there are, and changes nothing else. A
     /// track without a queue needs none. `NoMemory` comes only where there was less room, and the
     /// range is then as it was.
@@ -144,6 +163,36 @@ impl Range {
         Ok(taken)
     }
 
+    /// Selects other tracks. The queue of a kind stays only where the new set has its track under
+    /// that kind; the mark and the ending stay.
+    #[tactic(auto, using(crate::proofs::Selecting::kept_range))]
+    pub fn retrack(&mut self, set: Choice)
+        requires distinct { is_distinct set ≡ true }
+        ensures value { self.new ≡ retracked set self.old }
+        ensures range { IsRange self.new }
+    {
+        keep_queues(&mut self.queues, set);
+        self.set = set;
+    }
+
+    /// Gives a selected track without a queue an empty one at a block. Where the mark from which the
+    /// film is to be read for it is less than the range's, that becomes the range's, and the range's
+    /// ending is forgotten.
+    #[tactic(auto, using(crate::proofs::Selecting::added_range))]
+    pub fn add_track(&mut self, kind: Kind, track: TrackNo, start: u64, mark: Mark)
+        requires selected { selected_under kind self.old.set ≡ Some track }
+        requires without { queue_under kind self.old.queues ≡ None }
+        requires before { mark.pos ≤ start }
+        ensures value { IsAdded kind track start mark self.old self.new }
+        ensures range { IsRange self.new }
+    {
+        put_queue(self.alloc, &mut self.queues, kind, track, start);
+        if mark.pos < self.mark.pos {
+            self.mark = mark;
+            self.ending = None;
+        }
+    }
+
     /// From where each track is read on after a seek to `t` nanoseconds, where the range serves it: it
     /// then holds what shows that these are the starts over the whole film. `None` exactly where it
     /// does not. It takes no memory.
@@ -155,11 +204,13 @@ impl Range {
 
     /// Whether the two are of one set, both have a queue for each of its tracks, and each of those
     /// begins where the other's reaches or before. Together they then have no gap.
+    #[tactic(auto, using(crate::proofs::Touching::meets_same))]
     pub fn touches(&self, other: &Range) -> bool
         ensures value { result ≡ meets_range self.now other.now }
         ensures range { IsRange self.now }
     {
-        is_same_set(self.set, other.set) && touch_all(&self.queues, &other.queues, self.set)
+        let (ours, others) = (intervals(&self.queues), intervals(&other.queues));
+        is_same_set(self.set, other.set) && spans_touch(self.set, &ours, &others)
     }
 
     /// Makes this range both together, where they touch: each queue is united with the other's, the

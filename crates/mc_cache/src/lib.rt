@@ -1,0 +1,16 @@
+//! The cache of a demuxer: the range that is read, other ranges in order of last use, and what
+//! becomes of them when a seek is answered, a part of the film is fed, ranges are joined, tracks
+//! are selected, or packets are dropped. Contracts see it as its ranges and its room
+//! (`specs/Cache`); each call leaves the ranges of the rule (`specs/Changing`, `specs/Joining`), and
+//! over a film's list that is the rule of `mc_journal` (`law`).
+#![tactic(auto)]
+
+mod cache;
+mod listing;
+mod prepared;
+mod removals;
+
+pub use cache::Cache;
+pub use mc_journal::{Cause, Removal};
+pub use mc_packet::NoMemory;
+pub use removals::Drops;

@@ -1,3 +1,4 @@
 pub mod Nexts
 pub mod Quiet
 pub mod Giving
+pub mod Failing

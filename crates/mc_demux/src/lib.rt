@@ -4,6 +4,7 @@
 mod answer;
 mod demux;
 mod job;
+mod outcomes;
 mod waiting;
 
 pub use answer::{DemuxError, Peek, Reading, Selected, Taken};

@@ -17,19 +17,9 @@ use Rattle.mc_demux.specs.declared.job.Job.{Job}
 use Rattle.mc_demux.specs.declared.job.Job.TheVariants.{SeekTo, Refresh, Resume, Read, Idle}
 use Rattle.mc_demux.specs.declared.waiting.Target.{Target}
 use Rattle.mc_demux.specs.declared.waiting.Switch.{Switch}
-use Rattle.mc_demux.specs.State.{DemuxState, head_of, forward_of}
+use Rattle.mc_demux.specs.State.{DemuxState, ahead_in, forward_of}
 
 -- ---- whether a track wants to be read on
-
-abbrev pub ahead : Option QueueState → Option Pos → List Packet
-ahead None head = []
-ahead (Some q) None = q.packets
-ahead (Some q) (Some p) = from_place (rank p) q.packets
-
--- what the current range holds of a track at its head or behind it
-abbrev pub ahead_in : Choice → Heads → ℕ → Option RangeState → List Packet
-ahead_in set heads track None = []
-ahead_in set heads track (Some r) = ahead (queue_of track r.queues) (head_of set heads track)
 
 -- it has nothing there, or less than is read ahead
 abbrev pub wants : DemuxState → ℕ → Bool

@@ -8,7 +8,7 @@ use Rattle.mc_packet.specs.declared.cache.Heads.{Heads}
 use Rattle.mc_packet.specs.declared.walk.Ending.{Ending}
 use Rattle.mc_tracks.specs.declared.track.Track.{Track}
 use Rattle.mc_journal.specs.declared.record.DemuxRecord.{DemuxRecord}
-use Rattle.mc_journal.specs.Choices.{is_track, has}
+use Rattle.mc_journal.specs.Choices.{is_track, has, total_of}
 use Rattle.mc_journal.specs.Films.{rank}
 use Rattle.mc_queue.specs.Places.{is_from, from_place, weights}
 use Rattle.mc_queue.specs.Queue.{QueueState}
@@ -64,21 +64,23 @@ abbrev pub end_in : ℕ → Option RangeState → Option Ending
 end_in track None = None
 end_in track (Some r) = if is_some (queue_of track r.queues) then r.ending else None
 
+-- ---- what stands behind it
+
+abbrev pub ahead : Option QueueState → Option Pos → List Packet
+ahead None head = []
+ahead (Some q) None = q.packets
+ahead (Some q) (Some p) = from_place (rank p) q.packets
+
+-- what the current range holds of a track at its head or behind it
+abbrev pub ahead_in : Choice → Heads → ℕ → Option RangeState → List Packet
+ahead_in set heads track None = []
+ahead_in set heads track (Some r) = ahead (queue_of track r.queues) (head_of set heads track)
+
 -- ---- octets
-
-abbrev pub weight_ahead : Option QueueState → Option Pos → ℕ
-weight_ahead None head = 0
-weight_ahead (Some q) None = weights q.packets
-weight_ahead (Some q) (Some p) = weights (from_place (rank p) q.packets)
-
-abbrev pub forward_in : Heads → Option RangeState → ℕ
-forward_in heads None = 0
-forward_in heads (Some r) =
-    weight_ahead r.queues.video heads.video + (weight_ahead r.queues.audio heads.audio + weight_ahead r.queues.sub heads.sub)
 
 -- of the current range's packets at or behind their heads
 abbrev pub forward_of : DemuxState → ℕ
-forward_of d = forward_in d.heads d.cache.current
+forward_of d = total_of d.set (λ track. weights (ahead_in d.set d.heads track d.cache.current))
 
 -- of all other cached packets
 abbrev pub back_of : DemuxState → ℕ

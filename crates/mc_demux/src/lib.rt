@@ -4,10 +4,12 @@
 mod answer;
 mod demux;
 mod job;
+mod law;
 mod outcomes;
 mod waiting;
 
 pub use answer::{DemuxError, Peek, Reading, Selected, Taken};
 pub use demux::{Demux, DemuxJournal};
 pub use job::Job;
+pub use law::{resting_readers, standing_journals};
 pub use waiting::{Failure, Switch, Target};

@@ -1,5 +1,5 @@
 -- A cache as contracts see it: the range that is read, if there is one, the others in order of last use, and its room.
-use Rattle.std.specs.Prelude.{◌≡◌, ◌≤◌, ◌<◌, ℕ, ◌+◌, ◌^◌, nat_lt, Bool, true, List, [], ◌∷◌, length, sum_by, map, Option, Some, None, option_map, if◌then◌else◌, IfSome}
+use Rattle.std.specs.Prelude.{◌≡◌, ◌≤◌, ◌<◌, ℕ, ◌+◌, ◌^◌, nat_lt, Bool, true, List, [], ◌∷◌, length, map, Option, Some, None, option_map, if◌then◌else◌, IfSome}
 use Rattle.std.specs.List.{AllByRecursion}
 use Rattle.mc_packet.specs.declared.cache.Limits.{Limits}
 use Rattle.mc_packet.specs.declared.walk.Ending.{Ending}
@@ -19,6 +19,14 @@ pub record CacheState : Type 0 where
   pub start_room : ℕ
   pub join_room : ℕ
   pub prepared : Option Prepared
+
+-- the same with another current range
+abbrev pub with_current : Option RangeState → CacheState → CacheState
+with_current current st = record st { current = current }
+
+-- the same with other others
+abbrev pub with_others : List RangeState → CacheState → CacheState
+with_others others st = record st { others = others }
 
 -- ---- ranges
 
@@ -55,16 +63,25 @@ count_in r = count_of_all r.queues
 
 -- the weight of all packets, and their number
 abbrev pub weight_of : List RangeState → ℕ
-weight_of rs = sum_by weight_in rs
+weight_of [] = 0
+weight_of (r ∷ rs) = weight_in r + weight_of rs
 
 abbrev pub count_of : List RangeState → ℕ
-count_of rs = sum_by count_in rs
+count_of [] = 0
+count_of (r ∷ rs) = count_in r + count_of rs
 
 -- ---- what is true of every cache
 
 pub record IsOther (r : RangeState) : Type 0 where
   pub range : IsRange r
   pub some : holds r ≡ true
+
+-- one range of others, and those that are left without it
+pub record Fewer (r : RangeState) (rs left : List RangeState) : Type 0 where
+  pub one : IsOther r
+  pub others : AllByRecursion IsOther left
+  pub weight : weight_in r + weight_of left ≡ weight_of rs
+  pub number : 1 + length left ≡ length rs
 
 -- a range that is held ready has the starts that stand beside it
 pub record IsReady (p : Prepared) : Type 0 where

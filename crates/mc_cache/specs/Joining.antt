@@ -42,3 +42,11 @@ JoinsAll (Some r) rs (Some r') rs' n drops = (q : RangeState) × IsRoomier r q �
 pub record IsJoinedUp (n : ℕ) (drops : List Removal) (old new : CacheState) : Type 0 where
   pub limits_is : new.limits ≡ old.limits
   pub joins : JoinsAll old.current old.others new.current new.others n drops
+
+-- ---- one of them
+
+-- it was united with another, or they differ and the other's packets are told
+abbrev pub JoinsOne : RangeState → RangeState → Bool → RangeState → List Removal → List Removal → Type 0
+JoinsOne r o true r' drops drops' = (o' : RangeState) × IsJoined r o r' o' × (drops' ≡ drops)
+JoinsOne r o false r' drops drops' = (at : Pos) × (ours : Option ℤ) × (other : Option ℤ) × JoinRefused r o (Differ at ours other) × IsRoomier r r'
+    × (drops' ≡ drops ++ removals_of (Mismatch at ours other) o)

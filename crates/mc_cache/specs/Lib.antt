@@ -3,8 +3,10 @@ pub mod Removals
 pub mod Changing
 pub mod Rooms
 pub mod Joining
+pub mod Pruning
 pub use Rattle.mc_range.specs.Range
 pub use Rattle.mc_range.specs.Growing
 pub use Rattle.mc_range.specs.Serving
 pub use Rattle.mc_range.specs.Joining as RangeJoining
 pub use Rattle.mc_range.specs.Tracks
+pub use Rattle.mc_range.specs.Cutting

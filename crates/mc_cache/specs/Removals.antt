@@ -1,5 +1,5 @@
 -- What is told of packets that go: one removal for each queue that holds some, by rising track.
-use Rattle.std.specs.Prelude.{ℕ, nat_le, Bool, List, [], ◌∷◌, ◌++◌, Option, Some, None, if◌then◌else◌}
+use Rattle.std.specs.Prelude.{ℕ, ◌==◌, nat_le, Bool, true, false, List, [], ◌∷◌, ◌++◌, Option, Some, None, if◌then◌else◌}
 use Rattle.mc_packet.specs.declared.packet.Packet.{Packet}
 use Rattle.mc_packet.specs.declared.packet.Pos.{Pos}
 use Rattle.mc_packet.specs.declared.choice.Choice.{Choice}
@@ -8,7 +8,7 @@ use Rattle.mc_journal.specs.declared.record.Removal.{Removal}
 use Rattle.mc_journal.specs.Choices.{is_track}
 use Rattle.mc_queue.specs.Queue.{QueueState}
 use Rattle.mc_range.specs.declared.queues.Queues.{Queues}
-use Rattle.mc_range.specs.Range.{RangeState}
+use Rattle.mc_range.specs.Range.{RangeState, count, queue_of}
 
 -- a removal of an interval, where it holds packets
 abbrev pub removal_if : Cause → ℕ → Pos → Pos → List Packet → List Removal
@@ -52,3 +52,21 @@ lost_queues set qs = record { video = lost_queue set.video qs.video; audio = los
 abbrev pub removals_lost : Cause → Choice → Option RangeState → List Removal
 removals_lost cause set None = []
 removals_lost cause set (Some r) = removals_in cause (lost_queues set r.queues)
+
+-- ---- the parts of a call
+
+-- what is told of a queue, by its track and interval: of one with packets, whose track doesn't stay
+abbrev pub told_in : Queues → Cause → ℕ → Pos × Pos → Bool → Option Removal
+told_in qs cause track i true = None
+told_in qs cause track i false = if count (queue_of track qs) == 0 then None else Some (record { track = track; from = i.0; to = i.1; cause = cause })
+
+abbrev pub told_if : Queues → Cause → Option ℕ → Option (Pos × Pos) → Option ℕ → Option Removal
+told_if qs cause None span stays = None
+told_if qs cause (Some track) None stays = None
+told_if qs cause (Some track) (Some i) stays = told_in qs cause track i (is_track stays track)
+
+-- two by rising track, none behind one
+abbrev pub ordered : Option Removal → Option Removal → Option Removal × Option Removal
+ordered None b = (b, None)
+ordered (Some d) None = (Some d, None)
+ordered (Some d) (Some e) = if nat_le d.track e.track then (Some d, Some e) else (Some e, Some d)

@@ -1,13 +1,13 @@
-ghost use Rattle.std.specs.Prelude.{◌≡◌, ◌≤◌, ◌<◌, ◌+◌, ◌^◌, true, Some, IfOk, IfSome, IsSomeAnd, OnErr, OnOk, OnSome, IfNone};
+ghost use Rattle.std.specs.Prelude.{◌≡◌, ◌≤◌, ◌<◌, ◌+◌, ◌^◌, true, [], Some, None, length, IfOk, IfSome, IsSomeAnd, find, OnErr, OnOk, OnSome, IfNone};
 ghost use Rattle.mc_packet.specs.Shape.{HasShape};
 ghost use Rattle.mc_journal.specs.Choices.{is_distinct};
 ghost use Rattle.mc_queue.specs.Places.{weights};
-ghost use Rattle.mc_range.specs.Range.{AtMark};
-ghost use Rattle.mc_range.specs.Growing.{lacks_room, taker};
-ghost use Rattle.mc_cache.specs.Cache.{IsCache, count_of, ending_in, mark_in, ranges_of, weight_of};
-ghost use Rattle.mc_cache.specs.Changing.{AddsTrack, Feeds, IsChosen, IsLeft, IsNew, IsRetracked, IsSameButRoom, IsStarted, MayAdd, heads_in, server};
+ghost use Rattle.mc_range.specs.Range.{AtMark, IsRange};
+ghost use Rattle.mc_range.specs.Growing.{IsFed, lacks_room, taker};
+ghost use Rattle.mc_cache.specs.Cache.{IsCache, count_of, ending_in, in_front, mark_in, ranges_of, weight_in, weight_of, with_current, with_others, without_first, Fewer};
+ghost use Rattle.mc_cache.specs.Changing.{AddsTrack, Feeds, IsChosen, IsLeft, IsNew, IsRetracked, IsSameButRoom, IsStarted, MayAdd, heads_in, server, serves};
 
-use crate::listing::{count_all, first_serving, holds};
+use crate::listing::{count_all, holds, take_serving};
 use crate::prepared::Prepared;
 use crate::removals::Drops;
 use mc_journal::Removal;
@@ -55,6 +55,55 @@ fn ending_in(range: &Option<Range>) -> Option<Ending>
     match range {
         Some(range) => range.ending(),
         None => None,
+    }
+}
+
+fn heads_in(range: &Option<Range>, set: Choice, t: i64, dir: Dir) -> Option<Heads>
+    ensures { result ≡ heads_in set t dir range.now }
+{
+    match range {
+        Some(range) => range.serves(set, t, dir),
+        None => None,
+    }
+}
+
+#[tactic(auto, using(crate::proofs::Fed::fed_or_same))]
+fn feed_range(range: &mut Range, chunk: Chunk) -> Result<Option<TrackNo>, NoMemory>
+    requires current { chunk.from ≡ range.old.mark }
+    requires shape { HasShape chunk }
+    requires fits { weight_in range.old + weights chunk.packets < 2 ^ 64 }
+    ensures ok { OnOk result (IsFed chunk range.old range.new) }
+    ensures taken { IfOk result (λ track. track ≡ taker chunk.packets range.old.queues) }
+    ensures err { OnErr result ((range.new ≡ range.old) × (lacks_room chunk.packets range.old.queues ≡ true)) }
+    ensures weight { weight_in range.new ≤ weight_in range.old + weights chunk.packets }
+    ensures range { IsRange range.new }
+{
+    let _mark = range.mark();
+    range.extend(chunk)
+}
+
+fn feed_in(range: &mut Option<Range>, chunk: Chunk) -> Result<Option<TrackNo>, NoMemory>
+    requires current { IsSomeAnd range.old (λ r. chunk.from ≡ r.mark) }
+    requires shape { HasShape chunk }
+    requires fits { weight_of (in_front range.old []) + weights chunk.packets < 2 ^ 64 }
+    ensures ok { OnOk result (IsSomeAnd range.old (λ o. IsSomeAnd range.new (λ n. IsFed chunk o n))) }
+    ensures taken { IfOk result (λ track. IfSome range.old (λ r. track ≡ taker chunk.packets r.queues)) }
+    ensures err { OnErr result ((range.new ≡ range.old) × IfSome range.old (λ r. lacks_room chunk.packets r.queues ≡ true)) }
+    ensures weight { weight_of (in_front range.new []) ≤ weight_of (in_front range.old []) + weights chunk.packets }
+    ensures range { IfSome range.new IsRange }
+{
+    match range {
+        Some(range) => feed_range(range, chunk),
+        None => Ok(None),
+    }
+}
+
+fn count_in(range: &Option<Range>) -> u64
+    ensures { result ≡ count_of (in_front range.now []) }
+{
+    match range {
+        Some(range) => range.packets(),
+        None => 0,
     }
 }
 
@@ -112,6 +161,30 @@ impl Cache {
         }
     }
 
+    /// Makes a range the current one, where none is.
+    fn put_current(&mut self, range: Range)
+        requires none { self.old.current ≡ None }
+        requires few { length self.old.others < 10 }
+        requires room { length self.old.others < self.old.places }
+        requires fits { weight_in range + weight_of self.old.others < 2 ^ 64 }
+        ensures value { self.new ≡ with_current (Some range) self.old }
+        ensures cache { IsCache self.new }
+    {
+        let _mark = range.mark();
+        self.current = Some(range);
+    }
+
+    /// Takes the first of the others that serves a seek.
+    #[tactic(auto, using(crate::proofs::Chosen::kept_out, crate::proofs::Chosen::fewer_of))]
+    fn take_server(&mut self, set: Choice, t: i64, dir: Dir) -> Option<Range>
+        ensures found { result ≡ find (serves set t dir) self.old.others }
+        ensures left { self.new ≡ with_others (without_first (serves set t dir) self.old.others) self.old }
+        ensures fewer { IfSome result (λ r. Fewer r self.old.others self.new.others) }
+        ensures cache { IsCache self.new }
+    {
+        take_serving(&mut self.others, set, t, dir)
+    }
+
     /// Makes the first range that serves a seek to `t` nanoseconds the current one, in order of last
     /// use, and gives the heads from which the tracks are then read. `None` exactly where no range
     /// serves; nothing has changed then. It takes no memory.
@@ -121,16 +194,13 @@ impl Cache {
         ensures none { IfNone result (self.new ≡ self.old) }
         ensures cache { IsCache self.new }
     {
-        if let Some(range) = &self.current {
-            if let Some(heads) = range.serves(set, t, dir) {
-                return Some(heads);
-            }
+        if let Some(heads) = heads_in(&self.current, set, t, dir) {
+            return Some(heads);
         }
-        let at = first_serving(self.others.as_slice(), set, t, dir)?;
-        let range = self.others.remove(at);
+        let range = self.take_server(set, t, dir)?;
         let heads = range.serves(set, t, dir);
         self.leave_current();
-        self.current = Some(range);
+        self.put_current(range);
         heads
     }
 
@@ -147,10 +217,7 @@ impl Cache {
         ensures lacks { OnErr result (IfSome self.old.current (λ r. lacks_room chunk.packets r.queues ≡ true)) }
         ensures cache { IsCache self.new }
     {
-        match &mut self.current {
-            Some(range) => range.extend(chunk),
-            None => Ok(None),
-        }
+        feed_in(&mut self.current, chunk)
     }
 
     /// Gives the current range an empty queue of a selected track, at a block. Where the mark from
@@ -168,14 +235,94 @@ impl Cache {
     }
 
     /// The number of all cached packets.
+    #[tactic(auto, using(crate::proofs::Lists::front_counts, crate::proofs::Lists::front_adds))]
     pub fn held(&self) -> u64
         ensures value { result ≡ count_of (ranges_of self.now) }
         ensures cache { IsCache self.now }
     {
-        let current = match &self.current {
-            Some(range) => range.packets(),
-            None => 0,
-        };
-        current + count_all(self.others.as_slice())
+        count_in(&self.current) + count_all(self.others.as_slice())
+    }
+
+    /// Makes a new range of a set the current one, which begins at its starts, and gives what is told
+    /// of the range that goes for it where eleven would stand. The one that was current stands in front
+    /// of the others then, unless it holds no packet. `NoMemory` comes only without the room that
+    /// `make_room_to_start` makes; the ranges are then as they were.
+    pub fn start_range(&mut self, set: Choice, starts: &Starts) -> Result<Drops, NoMemory>
+        requires distinct { is_distinct set ≡ true }
+        requires video { AtMark starts.now.mark.pos starts.now.video }
+        requires audio { AtMark starts.now.mark.pos starts.now.audio }
+        requires sub { AtMark starts.now.mark.pos starts.now.sub }
+        ensures ok { IfOk result (λ drops. IsStarted set starts.now drops self.old self.new) }
+        ensures room { OnOk result (IsPrepared set starts.now self.old → HasRoomToJoin self.new) }
+        ensures err { OnErr result (IsSameButRoom self.old self.new) }
+        ensures within { OnErr result (HasRoomToStart self.old → ⊥) }
+        ensures cache { IsCache self.new }
+    {
+        self.reserve_to_start()?;
+        let range = self.take_ready(set, starts);
+        self.leave_current();
+        let drops = self.drop_eleventh();
+        self.put_current(range);
+        Ok(drops)
+    }
+
+    /// Selects other tracks: the current range keeps the queues of tracks that stay under their kind,
+    /// and all other ranges go; without any track no range stays. Gives what is told of the packets
+    /// that go. `NoMemory` leaves all as it was.
+    pub fn retrack(&mut self, set: Choice) -> Result<Drops, NoMemory>
+        requires distinct { is_distinct set ≡ true }
+        ensures ok { IfOk result (λ drops. IsRetracked set drops self.old self.new) }
+        ensures err { OnErr result (self.new ≡ self.old) }
+        ensures cache { IsCache self.new }
+    {
+        let mut drops = Vec::with_capacity(self.alloc, 30)?;
+        tell_lost(&mut drops, &self.current, set);
+        push_ranges(&mut drops, self.others.as_slice(), Cause::TrackChanged);
+        self.others.clear();
+        reselect(&mut self.current, set);
+        Ok(Drops::from_vec(drops))
+    }
+
+    /// Joins the current range with each other one that touches it, in order of last use, as long as
+    /// one does. One whose packets differ from the current range's goes instead, and is told of.
+    /// `NoMemory` comes only without the room that `make_room_to_start` and `make_room_to_feed` make;
+    /// the ranges are then as they were.
+    pub fn join_current(&mut self) -> Result<Joins, NoMemory>
+        ensures ok { IfOk result (λ j. IsJoinedUp j.joined j.dropped self.old self.new) }
+        ensures err { OnErr result (IsSameButRoom self.old self.new) }
+        ensures within { OnErr result (HasRoomToJoin self.old → ⊥) }
+        ensures cache { IsCache self.new }
+    {
+        if !touches_any(&self.current, self.others.as_slice()) {
+            let dropped = Drops::new(self.alloc);
+            return Ok(Joins { joined: 0, dropped });
+        }
+        self.reserve_to_join()?;
+        let mut dropped = replace(&mut self.join_drops, Vec::new(self.alloc));
+        dropped.clear();
+        let joined = join_others(&mut self.current, &mut self.others, &mut dropped);
+        let dropped = Drops::from_vec(dropped);
+        Ok(Joins { joined, dropped })
+    }
+
+    /// Makes the one next drop that the limit on octets behind the readers asks for: in the last of
+    /// the other ranges, else in the current one, of no packet at its head or behind it. `None` exactly
+    /// where those octets are within the limit; nothing has changed then. It takes no memory.
+    pub fn prune(&mut self, heads: &Heads) -> Option<Removal>
+        ensures value { Prunes heads.now result self.old self.new }
+        ensures cache { IsCache self.new }
+    {
+        self.look_from(heads);
+        let (back, max) = (self.back(heads), self.limits.back);
+        if back <= max {
+            return None;
+        }
+        let cut = self.cut(heads)?;
+        Some(Removal {
+            track: cut.track,
+            from: cut.from,
+            to: cut.to,
+            cause: Cause::Limit { back, max },
+        })
     }
 }

@@ -1,6 +1,6 @@
-ghost use Rattle.std.specs.Prelude.{◌≡◌, ◌<◌, ◌^◌, ℤ, nat_lt, IfSome, position};
+ghost use Rattle.std.specs.Prelude.{◌≡◌, ◌<◌, ◌^◌, ℤ, nat_lt, IfSome, position, find, vec_capacity};
 ghost use Rattle.mc_range.specs.Range.{meets_range};
-ghost use Rattle.mc_cache.specs.Cache.{count_of, holds, weight_of};
+ghost use Rattle.mc_cache.specs.Cache.{IsOther, count_of, holds, weight_of, without_first};
 ghost use Rattle.mc_cache.specs.Changing.{serves};
 
 use mc_packet::{Choice, Dir};
@@ -33,7 +33,28 @@ pub(crate) fn first_touching(range: &Range, others: &[Range]) -> Option<usize>
     others.iter().position(|other| range.touches(other))
 }
 
+/// Takes the first range that serves a seek out of others.
+pub(crate) fn take_serving(others: &mut Vec<Range>, set: Choice, t: i64, dir: Dir) -> Option<Range>
+    ensures found { result ≡ find (serves set t dir) others.old.items }
+    ensures left { others.new.items ≡ without_first (serves set t dir) others.old.items }
+    ensures room { vec_capacity others.new ≡ vec_capacity others.old }
+{
+    let at = first_serving(others.as_slice(), set, t, dir)?;
+    Some(others.remove(at))
+}
+
+/// Takes the first range that touches another one out of those beside it.
+pub(crate) fn take_touching(range: &Range, others: &mut Vec<Range>) -> Option<Range>
+    ensures found { result ≡ find (meets_range range.now) others.old.items }
+    ensures left { others.new.items ≡ without_first (meets_range range.now) others.old.items }
+    ensures room { vec_capacity others.new ≡ vec_capacity others.old }
+{
+    let at = first_touching(range, others.as_slice())?;
+    Some(others.remove(at))
+}
+
 /// The number of all packets.
+#[tactic(auto, using(crate::proofs::Lists::count_more, crate::proofs::Lists::count_next))]
 pub(crate) fn count_all(ranges: &[Range]) -> u64
     requires { weight_of ranges.now < 2 ^ 64 }
     ensures { result ≡ count_of ranges.now }
@@ -46,6 +67,7 @@ pub(crate) fn count_all(ranges: &[Range]) -> u64
 }
 
 /// The weight of all packets.
+#[tactic(auto, using(crate::proofs::Lists::weight_more, crate::proofs::Lists::weight_next))]
 pub(crate) fn weight_all(ranges: &[Range]) -> u128
     requires { weight_of ranges.now < 2 ^ 64 }
     ensures { result ≡ weight_of ranges.now }

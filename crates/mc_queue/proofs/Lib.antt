@@ -6,3 +6,6 @@ pub mod Uniting
 pub mod Differing
 pub mod Filmed
 pub mod Halving
+pub mod Rests
+pub mod Cutting
+pub mod Timing

@@ -3,3 +3,4 @@ pub mod Queue
 pub mod Differences
 pub mod Union
 pub mod Films
+pub mod Times

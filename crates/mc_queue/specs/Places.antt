@@ -11,6 +11,11 @@ place p = rank p.pos
 abbrev pub weight_of : Packet → ℕ
 weight_of p = length p.body + 64
 
+-- that of a packet where there is one
+abbrev pub weight_at : Option Packet → ℕ
+weight_at None = 0
+weight_at (Some p) = weight_of p
+
 -- the sum of their weights
 abbrev pub weights : List Packet → ℕ
 weights ps = sum_by weight_of ps

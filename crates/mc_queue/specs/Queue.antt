@@ -1,5 +1,5 @@
 -- A queue as contracts see it, and what its look-ups answer.
-use Rattle.std.specs.Prelude.{◌≡◌, ℕ, ◌+◌, ◌≤◌, ◌++◌, length, ◌<◌, ◌^◌, Bool, ◌&&◌, if◌then◌else◌, List, [], ◌∷◌, ℤ, int_le, int_lt, Option, Some, None}
+use Rattle.std.specs.Prelude.{◌≡◌, ℕ, ◌+◌, ◌≤◌, ◌++◌, drop, length, ◌<◌, ◌^◌, Bool, ◌&&◌, if◌then◌else◌, List, [], ◌∷◌, ℤ, int_le, int_lt, Option, Some, None}
 use Rattle.std.specs.List.{find}
 use Rattle.std.specs.Option.{option_map}
 use Rattle.mc_packet.specs.declared.packet.Packet.{Packet}
@@ -48,6 +48,11 @@ pub record Appends (upto : Pos) (ps : List Packet) (old new : QueueState) : Type
 
 -- ---- look-ups
 
+-- the first packet
+abbrev pub first_of : List Packet → Option Packet
+first_of [] = None
+first_of (p ∷ ps) = Some p
+
 -- the last packet in file order that passes
 abbrev pub find_last : (Packet → Bool) → List Packet → Option Packet
 find_last test [] = None
@@ -72,3 +77,13 @@ is_sync_from t p = p.sync && int_le t p.time
 
 abbrev pub is_sync_before : ℤ → Packet → Bool
 is_sync_before t p = p.sync && int_lt p.time t
+
+-- ---- where a queue is cut
+
+abbrev pub place_or : Pos → Option Pos → Pos
+place_or to None = to
+place_or to (Some p) = p
+
+-- the place of the next sync point after its first packet, else its end
+abbrev pub next_cut : QueueState → Pos
+next_cut q = place_or q.to (first_that is_sync (drop 1 q.packets))

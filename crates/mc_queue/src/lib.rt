@@ -5,6 +5,7 @@
 #![tactic(auto)]
 
 mod differences;
+mod looking;
 mod lookups;
 mod merging;
 mod parts;
@@ -12,7 +13,9 @@ mod place;
 mod queue;
 #[cfg(test)]
 mod tests;
+mod times;
 
 pub use differences::Difference;
 pub use mc_packet::NoMemory;
+pub use place::{earlier, is_before, is_upto, later, rank_of};
 pub use queue::{Queue, UnionError};

@@ -1,10 +1,10 @@
-ghost use Rattle.std.specs.Prelude.{◌≡◌, reverse, slice_get};
+ghost use Rattle.std.specs.Prelude.{◌≡◌, drop, reverse, slice_get};
 ghost use Rattle.std.specs.List.{find, list_any};
 ghost use Rattle.std.specs.Option.{option_copied, option_map};
 ghost use Rattle.mc_journal.specs.Films.{rank};
 ghost use Rattle.std.specs.List.Sorted.{IsPartitionedBy};
 ghost use Rattle.mc_queue.specs.Places.{is_before, is_from};
-ghost use Rattle.mc_queue.specs.Queue.{first_that, last_that, is_sync, is_sync_before, is_sync_from, is_sync_upto};
+ghost use Rattle.mc_queue.specs.Queue.{first_of, first_that, place_or, last_that, is_sync, is_sync_before, is_sync_from, is_sync_upto};
 
 use crate::place::is_before;
 use mc_packet::{Packet, Pos};
@@ -18,10 +18,33 @@ pub(crate) fn first_at(packets: &VecDeque<Packet>, head: Pos) -> Option<&Packet>
     get_at(packets, packets.partition_point(|p| is_before(p.pos, head)))
 }
 
-fn get_at(packets: &VecDeque<Packet>, at: usize) -> Option<&Packet>
+pub(crate) fn get_at(packets: &VecDeque<Packet>, at: usize) -> Option<&Packet>
     ensures { option_copied result ≡ slice_get packets.now.items at }
 {
     packets.get(at)
+}
+
+/// The first packet.
+pub(crate) fn first(packets: &VecDeque<Packet>) -> Option<&Packet>
+    ensures { option_copied result ≡ first_of packets.now.items }
+{
+    packets.front()
+}
+
+/// The place of the first sync point behind the first packet.
+pub(crate) fn next_sync(packets: &VecDeque<Packet>) -> Option<Pos>
+    ensures { result ≡ first_that is_sync (drop 1 packets.now.items) }
+{
+    place_of(packets.iter().skip(1).find(|p| p.sync))
+}
+
+pub(crate) fn place_or(end: Pos, place: Option<Pos>) -> Pos
+    ensures { result ≡ place_or end place }
+{
+    match place {
+        Some(place) => place,
+        None => end,
+    }
 }
 
 pub(crate) fn first_sync(packets: &VecDeque<Packet>) -> Option<Pos>

@@ -18,7 +18,7 @@ pub(crate) fn weight_behind(packets: &VecDeque<Packet>, head: Pos) -> u64
 }
 
 #[tactic(auto, using(crate::proofs::Rising::more_weight_of_some))]
-fn weight_in(packets: &[Packet], head: Pos) -> u64
+pub(crate) fn weight_in(packets: &[Packet], head: Pos) -> u64
     requires fits { weights packets.now < 2 ^ 64 }
     ensures { result ≡ weights (from_place (rank head) packets.now) }
 {

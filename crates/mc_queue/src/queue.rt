@@ -1,19 +1,23 @@
-ghost use Rattle.std.specs.Prelude.{◌≡◌, ℕ, ◌+◌, ◌-◌, ◌<◌, ◌≤◌, ◌^◌, ◌++◌, [], length, IfOk, OnErr, OnOk};
+ghost use Rattle.std.specs.Prelude.{◌≡◌, true, false, None, ℕ, ◌+◌, ◌-◌, ◌<◌, ◌≤◌, ◌^◌, ◌++◌, [], length, IfOk, OnErr, OnOk};
 ghost use Rattle.std.specs.List.{find, list_any};
 ghost use Rattle.std.specs.Option.{option_copied};
 ghost use Rattle.mc_journal.specs.Films.{rank};
 ghost use Rattle.mc_queue.specs.declared.queue.UnionError.TheVariants.{Mismatch};
+ghost use Rattle.mc_packet.specs.declared.choice.Dir.TheVariants.{Back, Forward};
+ghost use Rattle.mc_queue.specs.Times.{IsNearest, is_wanted};
 ghost use Rattle.mc_queue.specs.Films.{AppendsFilm, KeepsFilm, UnitesFilm};
 ghost use Rattle.mc_queue.specs.Union.{Compared, Meet, UnionGives, Unites, added};
 ghost use Rattle.mc_queue.specs.Places.{before, Rise, is_from, from_place, weights};
-ghost use Rattle.mc_queue.specs.Queue.{Appends, DropsTo, IsNew, IsQueue, with_spare, first_that, last_that, is_sync, is_sync_before, is_sync_from, is_sync_upto};
+ghost use Rattle.mc_queue.specs.Queue.{Appends, DropsTo, IsNew, IsQueue, with_spare, first_of, first_that, last_that, next_cut, is_sync, is_sync_before, is_sync_from, is_sync_upto};
 
 use crate::differences::{Difference, compare};
+use crate::looking::{ahead_after, weight_moved};
 use crate::lookups;
 use crate::merging::{count_outside, merge, weight_outside};
-use crate::parts::{add_behind, drop_before, make_room, weight_behind, weight_of_all};
-use crate::place::{earlier, later};
-use mc_packet::{NoMemory, Packet, Packets, Pos, TrackNo};
+use crate::parts::{add_behind, drop_before, make_room, weight_behind, weight_in, weight_of_all};
+use crate::place::{earlier, is_at, later};
+use crate::times::nearest;
+use mc_packet::{Dir, NoMemory, Packet, Packets, Pos, TrackNo};
 use std::alloc::Global;
 use std::collections::VecDeque;
 use std::marker::Model;
@@ -41,20 +45,23 @@ pub struct Queue {
     to: Pos,
     packets: VecDeque<Packet>,
     weight: u64,
+    // A place that contracts do not see, and the weight of the packets from there on.
+    look: Pos,
+    ahead: u64,
 }
 
 impl Model for Queue {
     ghost use Rattle.std.specs.Prelude.{◌≡◌, ◌-◌, ◌<◌, ◌^◌};
     ghost use Rattle.std.specs.VecDeque.{deque_capacity, deque_len};
     ghost use Rattle.mc_journal.specs.Films.{rank};
-    ghost use Rattle.mc_queue.specs.Places.{Rise, weights};
+    ghost use Rattle.mc_queue.specs.Places.{Rise, from_place, weights};
     ghost use Rattle.mc_queue.specs.Queue.{QueueState};
 
     ghost Value = { QueueState };
 
     ghost view = { λ q. record { track = q.track; from = q.from; to = q.to; packets = q.packets.items; spare = deque_capacity q.packets - deque_len q.packets } };
 
-    ghost invariant = { λ q. (q.weight ≡ weights q.packets.items) × (weights q.packets.items < 2 ^ 64) × Rise q.track (rank q.from) (rank q.to) q.packets.items };
+    ghost invariant = { λ q. (q.weight ≡ weights q.packets.items) × (weights q.packets.items < 2 ^ 64) × Rise q.track (rank q.from) (rank q.to) q.packets.items × (q.ahead ≡ weights (from_place (rank q.look) q.packets.items)) };
 }
 
 impl Queue {
@@ -69,6 +76,8 @@ impl Queue {
             to: at,
             packets: VecDeque::new(alloc),
             weight: 0,
+            look: at,
+            ahead: 0,
         }
     }
 
@@ -112,11 +121,25 @@ impl Queue {
         self.weight
     }
 
-    /// The same of the packets at or behind a place.
+    /// The same of the packets at or behind a place. They are walked, but for the place at which
+    /// `look_from` last looked.
     pub fn weight_from(&self, head: Pos) -> u64
         ensures { result ≡ weights (from_place (rank head) self.now.packets) }
     {
-        weight_behind(&self.packets, head)
+        if is_at(self.look, head) {
+            self.ahead
+        } else {
+            weight_behind(&self.packets, head)
+        }
+    }
+
+    /// Lets `weight_from` answer for this place without a walk, from now on. It walks the packets
+    /// between this place and the one before, and changes nothing that can be seen.
+    pub fn look_from(&mut self, head: Pos)
+        ensures same { self.new ≡ self.old }
+    {
+        self.ahead = weight_moved(&self.packets, self.look, self.ahead, head);
+        self.look = head;
     }
 
     /// Makes room for so many more packets than there are, and changes nothing else. `NoMemory`
@@ -142,8 +165,10 @@ impl Queue {
         ensures queue { IsQueue self.new }
     {
         let weight = weight_of_all(packets.as_slice());
+        let ahead = weight_in(packets.as_slice(), self.look);
         add_behind(&mut self.packets, packets)?;
         self.weight += weight;
+        self.ahead += ahead;
         self.to = upto;
         Ok(())
     }
@@ -161,6 +186,8 @@ impl Queue {
         let dropped = drop_before(&mut self.packets, cut);
         self.weight -= dropped;
         self.from = cut;
+        self.ahead = ahead_after(self.look, self.ahead, cut, self.weight);
+        self.look = later(self.look, cut);
         dropped
     }
 
@@ -169,6 +196,45 @@ impl Queue {
         ensures { option_copied result ≡ find (is_from (rank head)) self.now.packets }
     {
         lookups::first_at(&self.packets, head)
+    }
+
+    /// The first packet.
+    pub fn first(&self) -> Option<&Packet>
+        ensures value { option_copied result ≡ first_of self.now.packets }
+        ensures queue { IsQueue self.now }
+    {
+        lookups::first(&self.packets)
+    }
+
+    /// The place up to which the queue is dropped next: its next sync point behind its first packet,
+    /// else its end.
+    pub fn next_cut(&self) -> Pos
+        ensures value { result ≡ next_cut self.now }
+        ensures within { (rank self.now.from ≤ rank result) × (rank result ≤ rank self.now.to) }
+        ensures queue { IsQueue self.now }
+    {
+        lookups::place_or(self.to, lookups::next_sync(&self.packets))
+    }
+
+    /// The least time of a sync point, in nanoseconds; with `t` the least one above it.
+    pub fn least_sync_time_after(&self, t: Option<i64>) -> Option<i64>
+        ensures { IsNearest Forward (is_wanted Forward false t) self.now.packets result }
+    {
+        nearest(&self.packets, Dir::Forward, false, t)
+    }
+
+    /// The greatest time of a sync point, in nanoseconds; with `t` the greatest one below it.
+    pub fn greatest_sync_time_before(&self, t: Option<i64>) -> Option<i64>
+        ensures { IsNearest Back (is_wanted Back false t) self.now.packets result }
+    {
+        nearest(&self.packets, Dir::Back, false, t)
+    }
+
+    /// The greatest time of a packet, in nanoseconds.
+    pub fn greatest_time(&self) -> Option<i64>
+        ensures { IsNearest Back (is_wanted Back true None) self.now.packets result }
+    {
+        nearest(&self.packets, Dir::Back, true, None)
     }
 
     /// The place of the last sync point, in file order, with a time of at most `t` nanoseconds.
@@ -283,8 +349,10 @@ impl Queue {
         merge(&mut self.packets, &mut other.packets, self.from, self.to);
         self.from = earlier(self.from, other.from);
         self.to = later(self.to, other.to);
+        self.ahead = weight_behind(&self.packets, self.look);
         other.to = other.from;
         other.weight = 0;
+        other.ahead = 0;
     }
 }
 

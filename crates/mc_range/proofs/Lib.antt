@@ -14,3 +14,4 @@ pub mod Fed
 pub mod Joined
 pub mod Chosen
 pub mod Retracked
+pub mod Dropping

@@ -4,3 +4,4 @@ pub mod Serving
 pub mod Joining
 pub mod Tracks
 pub mod Filmed
+pub mod Cutting

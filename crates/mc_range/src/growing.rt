@@ -6,18 +6,10 @@ ghost use Rattle.mc_queue.specs.Union.{later};
 ghost use Rattle.mc_range.specs.Range.{weight_in, weight_of_all};
 ghost use Rattle.mc_range.specs.Growing.{AllApart, AllSound, AreOwn, Owns, DropsOne, Extends, ExtendsAll, ExtendsIn, IsForeign, IsSound, RiseTogether, first_track, lacks, lacks_room, news, taker, takes, track_with};
 
-use crate::place::{is_before, is_upto};
 use crate::queues::{Queues, is_of};
 use mc_packet::{Kind, NoMemory, Packet, Packets, Pos, TrackNo};
-use mc_queue::Queue;
+use mc_queue::{Queue, is_before, later};
 use std::alloc::Global;
-
-/// The later of two places.
-fn later(a: Pos, b: Pos) -> Pos
-    ensures { result ≡ later a b }
-{
-    if is_upto(a, b) { b } else { a }
-}
 
 /// Drops the first packet if it stands before the place.
 fn drop_first(packets: &mut Packets, cut: Pos) -> bool

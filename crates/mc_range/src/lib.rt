@@ -5,6 +5,7 @@
 //! ending (`specs/Range`).
 #![tactic(auto)]
 
+mod cutting;
 mod growing;
 mod joining;
 mod law;
@@ -16,6 +17,7 @@ mod serving;
 mod tests;
 mod tracks;
 
+pub use cutting::Cut;
 pub use law::{
     added_ranges, begun_ranges, fed_ranges, joined_ranges, retracked_ranges, served_films,
     touching_spans,

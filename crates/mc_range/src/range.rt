@@ -3,11 +3,14 @@ ghost use Rattle.mc_journal.specs.Choices.{is_distinct, or_else};
 ghost use Rattle.mc_range.specs.Range.{AtMark, IsBegun, IsRange, IsRoomier, count, is_same, is_same_set, meets_range, queue_of, weight_of_all};
 ghost use Rattle.mc_range.specs.Growing.{IsFed, lacks_room, taker};
 ghost use Rattle.mc_range.specs.Serving.{heads_of};
+ghost use Rattle.mc_range.specs.Cutting.{IsCut, weight_from};
+ghost use Rattle.std.specs.Option.{option_copied};
 ghost use Rattle.mc_range.specs.Joining.{IsJoined, JoinRefused, greater};
 ghost use Rattle.mc_range.specs.Tracks.{IsAdded, count_of_all, intervals, queue_under, retracked, selected_under};
 ghost use Rattle.mc_packet.specs.Shape.{HasShape};
 ghost use Rattle.mc_queue.specs.Places.{weights};
 
+use crate::cutting::{Cut, drop_next, look_from, weight_from};
 use crate::growing::extend;
 use crate::joining::join;
 use crate::place::place_at;
@@ -191,6 +194,36 @@ impl Range {
             self.mark = mark;
             self.ending = None;
         }
+    }
+
+    /// The weight of the packets at these heads or behind them, of the kinds that have a head and a
+    /// queue.
+    pub fn weight_from(&self, heads: &Heads) -> u128
+        ensures value { result ≡ weight_from heads.now self.now.queues }
+        ensures range { IsRange self.now }
+    {
+        weight_from(&self.queues, heads)
+    }
+
+    /// Lets `weight_from` answer for these heads without a walk, from now on, and changes nothing that
+    /// can be seen. It walks the packets between these heads and those before.
+    pub fn look_from(&mut self, heads: &Heads)
+        ensures same { self.new ≡ self.old }
+        ensures range { IsRange self.new }
+    {
+        look_from(&mut self.queues, heads);
+    }
+
+    /// Makes the one next drop: of the first packet that has the least place of all queues, and the
+    /// packets of its track behind it up to the next sync point or the end of its queue. With heads
+    /// only packets before their kind's head are dropped. `None` exactly where there is no such packet,
+    /// and then nothing changes. It takes no memory.
+    #[tactic(auto, using(crate::proofs::Dropping::cut_range, crate::proofs::Dropping::all_sound))]
+    pub fn cut(&mut self, upto: Option<&Heads>) -> Option<Cut>
+        ensures value { IsCut (option_copied upto.entry) self.old self.new result }
+        ensures range { IsRange self.new }
+    {
+        drop_next(&mut self.queues, upto.copied())
     }
 
     /// From where each track is read on after a seek to `t` nanoseconds, where the range serves it: it

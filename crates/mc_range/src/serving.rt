@@ -9,10 +9,10 @@ ghost use Rattle.mc_packet.specs.declared.choice.Dir.TheVariants.{Back, Forward}
 ghost use Rattle.mc_range.specs.Range.{spans_of};
 ghost use Rattle.mc_range.specs.Serving.{at_place, head_at, heads_in, serves_sub, serves_track, syncs_of, told_syncs};
 
-use crate::place::{first_lane, is_start, is_upto, place_at};
+use crate::place::{first_lane, is_start, place_at};
 use crate::queues::{Queues, find};
 use mc_packet::{Choice, Dir, Heads, Packet, Pos, TrackNo};
-use mc_queue::Queue;
+use mc_queue::{Queue, is_upto};
 
 // ---- the sync points of a queue
 

@@ -2,10 +2,10 @@ ghost use Rattle.std.specs.Prelude.{◌≡◌, ◌<◌, ◌^◌};
 ghost use Rattle.mc_range.specs.Range.{count, place_at};
 ghost use Rattle.mc_range.specs.Tracks.{PutsIn, both_touch, count_of_all, interval_of, intervals, kept_queue, kept_queues, spans_touch, touch_in};
 
-use crate::place::{is_upto, place_at};
+use crate::place::place_at;
 use crate::queues::Queues;
 use mc_packet::{Choice, Kind, Pos, Spans, TrackNo};
-use mc_queue::Queue;
+use mc_queue::{Queue, is_upto};
 use std::alloc::Global;
 
 fn interval_of(queue: &Option<Queue>) -> Option<(Pos, Pos)>

@@ -18,6 +18,13 @@ overflow_add-self c =
     let i = c.self.invariant.0 in
     omega arith
 
+pub weight_behind-self-inside-requires : goal.weight_behind-self-inside-requires
+weight_behind-self-inside-requires c =
+    let u = unites_seen _ _ _ _ c.self.view_is c.other.view_is c.self.invariant.2 c.other.invariant.2 c.requires.meet in
+    let f = fits_seen _ _ _ _ c.self.view_is c.other.view_is c.requires.fits in
+    let a = absorbed _ _ u f _ _ c.earlier-self-inside.ensures c.later-self-inside.ensures _ c.merge.ensures.items in
+    record { fits = a.fits }
+
 pub invariant_of-self : goal.invariant_of-self
 invariant_of-self c =
     let u = unites_seen _ _ _ _ c.self.view_is c.other.view_is c.self.invariant.2 c.other.invariant.2 c.requires.meet in
@@ -26,7 +33,7 @@ invariant_of-self c =
     let b = a.weight_is in
     let w = c.weight_outside.ensures in
     let i = c.self.invariant.0 in
-    (omega arith, a.fits, a.rise)
+    (omega arith, a.fits, a.rise, c.weight_behind-self-inside.ensures)
 
 pub returns-clause-value : goal.returns-clause-value
 returns-clause-value c =

@@ -1,8 +1,10 @@
-use Rattle.std.proofs.Common.{◌-◌, ◌≤◌, arith, subst, sym, ap}
+use Rattle.std.proofs.Common.{◌≡◌, ◌-◌, ◌≤◌, arith, subst, sym, ap}
 use Rattle.std.specs.VecDeque.{deque_capacity, deque_len}
 use Rattle.mc_journal.specs.Films.{rank}
 use Rattle.mc_queue.specs.Queue.{QueueState}
+use Rattle.mc_queue.specs.Places.{weights}
 use Rattle.mc_queue.proofs.Rising.{shrunk}
+use Rattle.mc_queue.proofs.Rests.{kept_ahead}
 use Rattle.mc_queue.proofs.Filmed.{keeps_film}
 use Rattle.mc_queue.proofs.queue.Queue.drop_upto.Goals as goal
 
@@ -14,7 +16,8 @@ invariant_of-self c =
     let w = c.drop_before-dropped.ensures.weight in
     let i = c.self.invariant.0 in
     let j = c.self.invariant.1 in
-    (omega arith, omega arith, s.1)
+    let v : c.self.inside.weight - c.drop_before-dropped.result ≡ weights c.drop_before-dropped.new.packets.items = omega arith in
+    (omega arith, omega arith, s.1, kept_ahead _ _ _ _ _ _ _ _ s.0 v c.self.invariant.3 c.later-self-inside.ensures c.ahead_after-self-inside.ensures)
 
 -- src/queue.rt:132:5
 pub returns-clause-dropped : goal.returns-clause-dropped

@@ -1,0 +1,4 @@
+pub mod Lists
+pub mod Fed
+pub mod Chosen
+pub mod Told

@@ -19,13 +19,16 @@ use Rattle.mc_journal.specs.Stands.{stand}
 use Rattle.mc_journal.specs.Views.{from_place as from_told, head, forward, forward_in, weight}
 use Rattle.mc_queue.specs.Places.{is_from, from_place, weight_of, weights}
 use Rattle.mc_queue.specs.Queue.{QueueState}
-use Rattle.mc_range.specs.Range.{RangeState, as_range, queue_of}
+use Rattle.mc_range.specs.Range.{RangeState, IsRange, as_range, queue_of}
 use Rattle.mc_range.specs.Serving.{HoldsFilm, packets_in}
 use Rattle.mc_demux.specs.declared.waiting.Target.{Target}
 use Rattle.mc_demux.specs.declared.waiting.Switch.{Switch}
 use Rattle.mc_demux.specs.declared.waiting.Failure.{Failure}
 use Rattle.mc_demux.specs.State.{head_of, ahead, ahead_in}
+use Rattle.mc_cache.specs.Pruning.{ahead_in as forward_of_kinds}
+use Rattle.mc_demux.specs.Demuxers.{HaveHeads}
 use Rattle.mc_demux.specs.Film.{Fits, PlacesAre}
+use Rattle.mc_demux.proofs.ByKind.{kinds_ahead}
 
 from_both : (n : ℕ) (ps : List Packet) → from_told n (map told ps) ≡ map told (from_place n ps)
 from_both n [] = refl
@@ -72,11 +75,18 @@ forward_told ps set heads n (Some r) all places =
         ∙ ap (λ (qs : List Told). sum_by weight qs) (ahead_told (queue_of k r.queues) (head_of set heads k) (n k) (places k))
         ∙ weights_told (ahead (queue_of k r.queues) (head_of set heads k)))
 
+pub forward_kinds : (set : Choice) (heads : Heads) (current : Option RangeState) → IfSome current IsRange → IfSome current (λ r. r.set ≡ set)
+    → IfSome current (HaveHeads set heads) → total_of set (λ k. weights (ahead_in set heads k current)) ≡ forward_of_kinds heads current
+forward_kinds set heads None i e have = sym (forward_none set)
+forward_kinds set heads (Some r) i e have = sym (kinds_ahead set heads r i e have)
+
 pub forward-is : (film : Film) (limits : Limits) (set : Choice) (current : Option RangeState) (others : List RangeState) (heads : Heads)
     (seeking : Option Target) (waiting : Choice) (switch : Switch) (failure : Option Failure) (ended : Choice) (h : List DemuxRecord)
+    → IfSome current IsRange → IfSome current (λ r. r.set ≡ set) → IfSome current (HaveHeads set heads)
     → Fits film limits set current others heads seeking waiting switch failure ended h
-    → forward film.packets h ≡ total_of set (λ k. weights (ahead_in set heads k current))
-forward-is film limits set current others heads seeking waiting switch failure ended h f =
+    → forward film.packets h ≡ forward_of_kinds heads current
+forward-is film limits set current others heads seeking waiting switch failure ended h range own_set have f =
     ap (λ (s : Choice). forward_in film.packets s (λ k. head film.packets k h) (stand film.packets h).current) f.set_is
     ∙ ap (λ (o : Option Range). forward_in film.packets set (λ k. head film.packets k h) o) f.current_is
     ∙ forward_told film.packets set heads (λ k. head film.packets k h) current f.held f.places
+    ∙ forward_kinds set heads current range own_set have

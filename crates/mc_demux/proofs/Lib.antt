@@ -6,3 +6,5 @@ pub mod Ends
 pub mod Forward
 pub mod Resting
 pub mod Laws
+pub mod ByKind
+pub mod Pruned

@@ -1,7 +1,7 @@
 -- Where nothing is to be done and no selected track has a packet at its head, each of them can be told its end or a failure.
 use Rattle.std.proofs.Common.{◌≡◌, ℕ, ◌+◌, ◌≤◌, ◌<◌, Bool, true, false, ◌&&◌, ◌||◌, not, Option, Some, None, List, [], ◌∷◌, refl, ap, sym, subst, ◌∙◌, inl, inr, arith, ◌⊎◌}
 use Rattle.std.specs.Prelude.{map, nat_le, if◌then◌else◌, is_some, IfSome, IsSomeAnd}
-use Rattle.std.specs.List.{filter, find}
+use Rattle.std.specs.List.{filter, find, AllByRecursion}
 use Rattle.std.proofs.lemmas.Bool.{cases_Bool, eq-eqb}
 use Rattle.std.proofs.lemmas.Bool.Decides.{nat_tests}
 use Rattle.mc_journal.specs.Told.{told}
@@ -16,7 +16,8 @@ use Rattle.mc_journal.specs.Films.{rank}
 use Rattle.mc_queue.specs.Places.{is_from, from_place, weights}
 use Rattle.mc_queue.specs.Queue.{QueueState}
 use Rattle.mc_range.specs.Range.{RangeState, queue_of}
-use Rattle.mc_cache.specs.Cache.{ending_in, mark_in}
+use Rattle.mc_cache.specs.Cache.{ending_in, mark_in, in_front}
+use Rattle.mc_demux.proofs.Forward.{forward_kinds}
 use Rattle.mc_demux.specs.declared.answer.Peek.TheVariants.{Finish}
 use Rattle.mc_demux.specs.declared.answer.Reading.{Reading}
 use Rattle.mc_demux.specs.declared.job.Job.{Job}
@@ -115,12 +116,27 @@ ended_by false true wanted h f w = cc
 ended_by false false true h f w = cc
 ended_by false false false h f w = cc
 
-is_ended : (d : DemuxState) (track : ℕ) → 1 ≤ d.cache.limits.forward → has d.set track ≡ true
+set_of : (P : RangeState → Type 0) (o : Option RangeState) (rs : List RangeState) → AllByRecursion P (in_front o rs) → IfSome o P
+set_of P None rs h = tt
+set_of P (Some r) rs h = h.0
+
+pub own_set : (d : DemuxState) → IsDemux d → IfSome d.cache.current (λ r. r.set ≡ d.set)
+own_set d i = set_of (λ r. r.set ≡ d.set) d.cache.current d.cache.others i.sets
+
+pub have_heads : (set : Choice) (heads : Heads) (waiting : Choice) (o : Option Target) (current : Option RangeState) → IsPlaced set heads waiting o current
+    → IfSome current (HaveHeads set heads)
+have_heads set heads waiting (Some s) None h = tt
+have_heads set heads waiting (Some s) (Some r) h = absurd (let e = h.0 in cc)
+have_heads set heads waiting None None h = tt
+have_heads set heads waiting None (Some r) h = h.1
+
+is_ended : (d : DemuxState) (track : ℕ) → IsDemux d → has d.set track ≡ true
     → ((k : ℕ) → has d.set k ≡ true → ahead_in d.set d.heads k d.cache.current ≡ [])
     → is_full d ≡ true → is_some (ending_in d.cache.current) ≡ true
-is_ended d track some sel none full =
-    let zero : forward_of d ≡ 0 = none_total d.set (λ k. weights (ahead_in d.set d.heads k d.cache.current)) (λ k e. ap weights (none k e)) in
-    let below : nat_le d.cache.limits.forward (forward_of d) ≡ false = above_none d.cache.limits.forward (forward_of d) some zero in
+is_ended d track i sel none full =
+    let have = have_heads d.set d.heads d.waiting d.seeking d.cache.current i.placed in
+    let zero : forward_of d ≡ 0 = sym (forward_kinds d.set d.heads d.cache.current i.cache.current (own_set d i) have) ∙ none_total d.set (λ k. weights (ahead_in d.set d.heads k d.cache.current)) (λ k e. ap weights (none k e)) in
+    let below : nat_le d.cache.limits.forward (forward_of d) ≡ false = above_none d.cache.limits.forward (forward_of d) i.limits.some zero in
     let wanted : some_wants d ≡ true = all_want d track sel (λ k e. ap (λ (ps : List Packet). wants_more d.cache.limits.readahead (map told ps)) (none k e)) in
     ended_by (is_some (ending_in d.cache.current)) (nat_le d.cache.limits.forward (forward_of d)) (some_wants d) full below wanted
 
@@ -179,16 +195,9 @@ why_idle d None track i sel none h =
     let placed = placed_none d.set d.heads d.waiting d.seeking d.cache.current i.placed calm in
     let k : start_job d None ≡ Idle = subst (λ (o : Option Target). start_job d o ≡ Idle) calm j in
     let full = full_read d track placed sel k in
-    let some = is_ended d track i.limits.some sel none full.1 in
+    let some = is_ended d track i sel none full.1 in
     let there = end_there d.set d.heads d.waiting d.cache.current track placed full.0 sel some in
     rw there refl
-
-have_heads : (set : Choice) (heads : Heads) (waiting : Choice) (o : Option Target) (current : Option RangeState) → IsPlaced set heads waiting o current
-    → IfSome current (HaveHeads set heads)
-have_heads set heads waiting (Some s) None h = tt
-have_heads set heads waiting (Some s) (Some r) h = absurd (let e = h.0 in cc)
-have_heads set heads waiting None None h = tt
-have_heads set heads waiting None (Some r) h = h.1
 
 pub rests : (d : DemuxState) (track : ℕ) → IsDemux d → job_of d ≡ Idle
     → ((k : ℕ) → has d.set k ≡ true → next_in d.set d.heads k d.cache.current ≡ None)

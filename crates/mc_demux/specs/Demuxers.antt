@@ -6,7 +6,7 @@ use Rattle.mc_packet.specs.declared.cache.Heads.{Heads}
 use Rattle.mc_packet.specs.declared.cache.Limits.{Limits}
 use Rattle.mc_journal.specs.Choices.{has, is_empty, is_distinct, nothing}
 use Rattle.mc_range.specs.Range.{RangeState, queue_of}
-use Rattle.mc_cache.specs.Cache.{CacheState, ranges_of, weight_of}
+use Rattle.mc_cache.specs.Cache.{CacheState, IsCache, ranges_of, weight_of}
 use Rattle.mc_demux.specs.declared.job.Job.{Job}
 use Rattle.mc_demux.specs.declared.job.Job.TheVariants.{SeekTo, Refresh, Resume, Read, Idle}
 use Rattle.mc_demux.specs.declared.waiting.Target.{Target}
@@ -31,7 +31,7 @@ heaviest = 67108864 + 64 * 256
 
 -- a track that waits has no queue, and every other one that is selected has one
 pub record AreQueued (set waiting : Choice) (r : RangeState) : Type 0 where
-  pub blank : (track : ℕ) → has waiting track ≡ true → queue_of track r.queues ≡ None
+  pub blank : (track : ℕ) → has waiting track ≡ true → is_some (queue_of track r.queues) ≡ false
   pub queued : (track : ℕ) → has set track ≡ true → has waiting track ≡ false → is_some (queue_of track r.queues) ≡ true
 
 -- each queue of the current range has a head
@@ -65,6 +65,7 @@ pub record KeepsJob (d : DemuxState) (job : Job) : Type 0 where
 -- ---- all of it
 
 pub record IsDemux (d : DemuxState) : Type 0 where
+  pub cache : IsCache d.cache
   pub limits : AreLimits d.cache.limits
   pub distinct : is_distinct d.set ≡ true
   pub sets : AllByRecursion (λ r. r.set ≡ d.set) (ranges_of d.cache)

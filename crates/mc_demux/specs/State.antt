@@ -1,5 +1,5 @@
 -- A demuxer as contracts see it, and what is read off it.
-use Rattle.std.specs.Prelude.{◌≡◌, ℕ, ◌+◌, ◌-◌, Bool, if◌then◌else◌, List, [], ◌∷◌, ◌++◌, length, Option, Some, None, IfSome, IsSomeAnd, is_some, ⊤}
+use Rattle.std.specs.Prelude.{◌≡◌, ℕ, Bool, if◌then◌else◌, List, [], ◌∷◌, ◌++◌, length, Option, Some, None, IfSome, IsSomeAnd, is_some, ⊤}
 use Rattle.std.specs.List.{find}
 use Rattle.mc_packet.specs.declared.packet.Packet.{Packet}
 use Rattle.mc_packet.specs.declared.packet.Pos.{Pos}
@@ -8,12 +8,13 @@ use Rattle.mc_packet.specs.declared.cache.Heads.{Heads}
 use Rattle.mc_packet.specs.declared.walk.Ending.{Ending}
 use Rattle.mc_tracks.specs.declared.track.Track.{Track}
 use Rattle.mc_journal.specs.declared.record.DemuxRecord.{DemuxRecord}
-use Rattle.mc_journal.specs.Choices.{is_track, has, total_of}
+use Rattle.mc_journal.specs.Choices.{is_track, has}
 use Rattle.mc_journal.specs.Films.{rank}
-use Rattle.mc_queue.specs.Places.{is_from, from_place, weights}
+use Rattle.mc_queue.specs.Places.{is_from, from_place}
 use Rattle.mc_queue.specs.Queue.{QueueState}
 use Rattle.mc_range.specs.Range.{RangeState, queue_of}
-use Rattle.mc_cache.specs.Cache.{CacheState, ranges_of, weight_of}
+use Rattle.mc_cache.specs.Cache.{CacheState}
+use Rattle.mc_cache.specs.Pruning.{ahead_in as forward_in, back_of as back_in}
 use Rattle.mc_demux.specs.declared.job.Job.{Job}
 use Rattle.mc_demux.specs.declared.waiting.Target.{Target}
 use Rattle.mc_demux.specs.declared.waiting.Switch.{Switch}
@@ -80,8 +81,8 @@ ahead_in set heads track (Some r) = ahead (queue_of track r.queues) (head_of set
 
 -- of the current range's packets at or behind their heads
 abbrev pub forward_of : DemuxState → ℕ
-forward_of d = total_of d.set (λ track. weights (ahead_in d.set d.heads track d.cache.current))
+forward_of d = forward_in d.heads d.cache.current
 
 -- of all other cached packets
 abbrev pub back_of : DemuxState → ℕ
-back_of d = weight_of (ranges_of d.cache) - forward_of d
+back_of d = back_in d.heads d.cache

@@ -8,3 +8,4 @@ pub mod Resting
 pub mod Laws
 pub mod ByKind
 pub mod Pruned
+pub mod Trimmed

@@ -8,6 +8,7 @@ pub mod Jobs
 pub mod Demuxers
 pub mod Keeping
 pub mod Records
+pub mod Trimming
 pub mod Readings
 pub mod Seeking
 pub mod Selecting

@@ -1,6 +1,6 @@
 -- Lists of ranges: their numbers, the first that passes, and those that are left without it.
 use Rattle.std.proofs.Common.{◌≡◌, ℕ, zero, suc, ◌+◌, ◌-◌, ◌*◌, ◌^◌, ◌<◌, ◌≤◌, Bool, true, false, List, [], ◌∷◌, length, take, drop, get_or, Option, Some, None, arith, refl, ap, sym, ◌∙◌, inl, inr, nat_lt, not, cond}
-use Rattle.std.specs.Prelude.{if◌then◌else◌}
+use Rattle.std.specs.Prelude.{if◌then◌else◌, is_some}
 use Rattle.std.specs.List.{AllByRecursion, filter, find, remove, slice_get, sum_by, position, position_or_len, list_any}
 use Rattle.std.proofs.lemmas.Bool.{cases_Bool, lt-ltb, ltb-true, ltb-false}
 use Rattle.std.proofs.lemmas.List.Folds.{find_at}
@@ -130,6 +130,21 @@ unfound test (r ∷ rs) e = elim (cases_Bool (test r)) [
   | inr n ↦ let z : find test rs ≡ None = rw n at e in rw n (ap (λ xs. r ∷ xs) (unfound test rs z))
 ]
 
+pub none_passes : (test : RangeState → Bool) (rs : List RangeState) → find test rs ≡ None → list_any test rs ≡ false
+none_passes test [] e = refl
+none_passes test (r ∷ rs) e = elim (cases_Bool (test r)) [
+  | inl y ↦ let z = rw y at e in absurd (cc)
+  | inr n ↦ let z : find test rs ≡ None = rw n at e in rw n (none_passes test rs z)
+]
+
+pub others_few : (c : Option RangeState) (rs : List RangeState) (n : ℕ) → length (in_front c rs) ≤ n → length rs ≤ n
+others_few None rs n l = l
+others_few (Some r) rs n l = omega arith
+
+pub others_light : (c : Option RangeState) (rs : List RangeState) (n : ℕ) → weight_of (in_front c rs) < n → weight_of rs < n
+others_light None rs n l = l
+others_light (Some r) rs n l = omega arith
+
 pub found_passes : (test : RangeState → Bool) (rs : List RangeState) (r : RangeState) → find test rs ≡ Some r → test r ≡ true
 found_passes test [] r e = absurd (cc)
 found_passes test (q ∷ rs) r e = elim (cases_Bool (test q)) [
@@ -139,6 +154,29 @@ found_passes test (q ∷ rs) r e = elim (cases_Bool (test q)) [
   where
     some : (a b : RangeState) → Some a ≡ Some b → a ≡ b
     some a b e = cc
+
+any_found : (test : RangeState → Bool) (rs : List RangeState) (r : RangeState) → find test rs ≡ Some r → list_any test rs ≡ true
+any_found test [] r e = absurd (cc)
+any_found test (q ∷ rs) r e = elim (cases_Bool (test q)) [
+  | inl y ↦ rw y refl
+  | inr n ↦ let z : find test rs ≡ Some r = rw n at e in rw n (any_found test rs r z)
+]
+
+get_some : (rs : List RangeState) (i : ℕ) → i < length rs → (r : RangeState) × (slice_get rs i ≡ Some r)
+get_some [] i l = absurd (omega arith)
+get_some (r ∷ rs) zero l = (r, refl)
+get_some (r ∷ rs) (suc i) l = get_some rs i (omega arith)
+
+any_by : (test : RangeState → Bool) (rs : List RangeState) (o : Option ℕ) → position test rs ≡ o → is_some (position test rs) ≡ list_any test rs
+any_by test rs None e = let p = passed test rs e in let n = p.no_one in rw (e, n) refl
+any_by test rs (Some i) e =
+    let t = taken test rs i e in
+    let g = get_some rs i t.within in
+    let y = any_found test rs g.0 (t.found ∙ g.1) in
+    rw (e, y) refl
+
+pub any_place : (test : RangeState → Bool) (rs : List RangeState) → is_some (position test rs) ≡ list_any test rs
+any_place test rs = any_by test rs (position test rs) refl
 
 -- ---- those that are left
 

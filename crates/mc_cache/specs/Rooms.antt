@@ -1,5 +1,5 @@
 -- The room within which the calls of a cache can't be refused.
-use Rattle.std.specs.Prelude.{◌≡◌, ◌≤◌, ◌<◌, ℕ, ◌+◌, Bool, true, false, ◌&&◌, if◌then◌else◌, List, [], ◌∷◌, length, sum_by, Option, Some, None, IfSome, IsSomeAnd}
+use Rattle.std.specs.Prelude.{◌≡◌, ◌≤◌, ◌<◌, ℕ, ◌+◌, Bool, true, false, ◌&&◌, if◌then◌else◌, List, [], ◌∷◌, length, Option, Some, None, IfSome, IsSomeAnd}
 use Rattle.std.specs.Option.{option_map}
 use Rattle.std.specs.List.{list_any}
 use Rattle.mc_packet.specs.declared.cache.Spans.{Spans}
@@ -22,7 +22,8 @@ abbrev pub count_at : ℕ → RangeState → ℕ
 count_at track r = count (queue_of track r.queues)
 
 abbrev pub count_at_all : ℕ → List RangeState → ℕ
-count_at_all track rs = sum_by (count_at track) rs
+count_at_all track [] = 0
+count_at_all track (r ∷ rs) = count_at track r + count_at_all track rs
 
 -- the queue of a track, if there is one, has room for so many packets more
 abbrev pub HasSpare : ℕ → ℕ → Queues → Type 0
@@ -41,6 +42,10 @@ pub record HasRoomFor (rs : List RangeState) (more : ℕ) (r : RangeState) : Typ
 
 abbrev pub meets_any : RangeState → List RangeState → Bool
 meets_any r rs = list_any (meets_range r) rs
+
+abbrev pub meets_in : Option RangeState → List RangeState → Bool
+meets_in None rs = false
+meets_in (Some r) rs = meets_any r rs
 
 -- where another range touches this one, there is room for what the others hold, and to tell of those that differ
 abbrev pub MayTake : ℕ → List RangeState → RangeState → Type 0

@@ -6,9 +6,11 @@
 #![tactic(auto)]
 
 mod cache;
+mod joining;
 mod listing;
 mod prepared;
 mod removals;
+mod rooms;
 
 pub use cache::Cache;
 pub use mc_journal::{Cause, Removal};

@@ -15,3 +15,5 @@ pub mod Joined
 pub mod Chosen
 pub mod Retracked
 pub mod Dropping
+pub mod Bounded
+pub mod Extremes

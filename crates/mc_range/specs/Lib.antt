@@ -5,3 +5,4 @@ pub mod Joining
 pub mod Tracks
 pub mod Filmed
 pub mod Cutting
+pub mod Bounds

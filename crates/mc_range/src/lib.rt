@@ -5,6 +5,7 @@
 //! ending (`specs/Range`).
 #![tactic(auto)]
 
+mod bounding;
 mod cutting;
 mod growing;
 mod joining;

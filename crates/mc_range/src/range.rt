@@ -4,12 +4,14 @@ ghost use Rattle.mc_range.specs.Range.{AtMark, IsBegun, IsRange, IsRoomier, coun
 ghost use Rattle.mc_range.specs.Growing.{IsFed, lacks_room, taker};
 ghost use Rattle.mc_range.specs.Serving.{heads_of};
 ghost use Rattle.mc_range.specs.Cutting.{IsCut, weight_from};
+ghost use Rattle.mc_range.specs.Bounds.{bounds_of};
 ghost use Rattle.std.specs.Option.{option_copied};
 ghost use Rattle.mc_range.specs.Joining.{IsJoined, JoinRefused, greater};
 ghost use Rattle.mc_range.specs.Tracks.{IsAdded, count_of_all, intervals, queue_under, retracked, selected_under};
 ghost use Rattle.mc_packet.specs.Shape.{HasShape};
 ghost use Rattle.mc_queue.specs.Places.{weights};
 
+use crate::bounding::bounds;
 use crate::cutting::{Cut, drop_next, look_from, weight_from};
 use crate::growing::extend;
 use crate::joining::join;
@@ -233,6 +235,17 @@ impl Range {
         ensures { result ≡ heads_of self.now set t dir }
     {
         serve(&self.queues, self.ending.is_some(), set, t, dir)
+    }
+
+    /// The times in nanoseconds between which a seek back is served: the least time of the lead's sync
+    /// points to which the range serves one, and the greatest such time or, where the range has its
+    /// ending, the greatest time of the lead's packets. `None` where there is no such sync point, or
+    /// no lead. It takes no memory.
+    pub fn bounds(&self) -> Option<(i64, i64)>
+        ensures value { result ≡ bounds_of self.now }
+        ensures range { IsRange self.now }
+    {
+        bounds(&self.queues, self.ending.is_some(), self.set)
     }
 
     /// Whether the two are of one set, both have a queue for each of its tracks, and each of those

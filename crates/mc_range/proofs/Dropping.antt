@@ -68,7 +68,7 @@ is_victim heads qs v e = elim (one_of (victim_in Video heads qs) _ v e) [
         let u = under kind (first_cuttable (bound_under kind heads) (queue_under kind qs)) v x in
         subst (λ (k : Kind). IsSomeAnd (first_cuttable (bound_under k heads) (queue_under k qs)) (λ p. p.pos ≡ v.place)) (sym u.0) u.1
 
-sound_under : (kind : Kind) (qs : Queues) → AllSound qs → IsSound (queue_under kind qs)
+pub sound_under : (kind : Kind) (qs : Queues) → AllSound qs → IsSound (queue_under kind qs)
 sound_under Video qs s = s.video
 sound_under Audio qs s = s.audio
 sound_under Sub qs s = s.sub

@@ -44,7 +44,7 @@ told_filter : (ps : List Packet) → filter (λ p. p.sync) (map told ps) ≡ tol
 told_filter [] = refl
 told_filter (p ∷ ps) = told_step p.sync p (filter (λ p. p.sync) (map told ps)) (filter is_sync ps) (told_filter ps)
 
-same_syncs : (ps : List Told) (r : RangeState) → HoldsFilm ps r → (track : ℕ) → held_syncs (as_range r) ps track ≡ syncs_of r.queues track
+pub same_syncs : (ps : List Told) (r : RangeState) → HoldsFilm ps r → (track : ℕ) → held_syncs (as_range r) ps track ≡ syncs_of r.queues track
 same_syncs ps r h track =
     span_syncs (spans_of r.queues track) track ps ∙ ap (λ qs. filter (λ p. p.sync) qs) (h track) ∙ told_filter (packets_in (queue_of track r.queues))
 

@@ -31,7 +31,7 @@ use Rattle.mc_range.proofs.Fed.{range_is}
 
 -- ---- the joined range
 
-earlier_min : (f g : Pos) → rank (earlier f g) ≡ min (rank f) (rank g)
+pub earlier_min : (f g : Pos) → rank (earlier f g) ≡ min (rank f) (rank g)
 earlier_min f g = elim (cases_Bool (nat_le (rank f) (rank g))) [
   | inl y ↦ let l = leb-true (rank f) (rank g) y in rw y (omega arith)
   | inr n ↦ let l = leb-false (rank f) (rank g) n in rw n (omega arith)

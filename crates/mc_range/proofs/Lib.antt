@@ -17,3 +17,6 @@ pub mod Retracked
 pub mod Dropping
 pub mod Bounded
 pub mod Extremes
+pub mod Weighed
+pub mod FilmCut
+pub mod Spared

@@ -1,6 +1,6 @@
 //! What a range's answers mean for the film: a law over every list of a film's packets of which the
 //! range holds, of each track, exactly those in its span.
-ghost use Rattle.std.specs.Prelude.{◌≡◌, ℕ, ◌&&◌, true, Some, None, List, ℤ, IfSome, Option, is_some};
+ghost use Rattle.std.specs.Prelude.{◌≡◌, ℕ, ◌<◌, ◌&&◌, true, Some, None, List, ℤ, IfSome, Option, is_some};
 ghost use Rattle.mc_packet.specs.declared.choice.Choice.{Choice};
 ghost use Rattle.mc_packet.specs.declared.choice.Dir.{Dir};
 ghost use Rattle.mc_packet.specs.declared.choice.Kind.{Kind};
@@ -15,12 +15,21 @@ ghost use Rattle.mc_journal.specs.Stands.{add_spans, fed_range, keep_tracks, new
 ghost use Rattle.mc_queue.specs.declared.differences.Difference.{Difference};
 ghost use Rattle.mc_queue.specs.declared.queue.UnionError.{UnionError};
 ghost use Rattle.mc_queue.specs.declared.queue.UnionError.TheVariants.{NoMemory};
-ghost use Rattle.mc_range.specs.Range.{IsBegun, IsRange, RangeState, as_range, is_same_set, meets_range};
+ghost use Rattle.mc_range.specs.Range.{IsBegun, IsRange, RangeState, as_range, is_same_set, meets_range, weight_of_all};
 ghost use Rattle.mc_range.specs.Growing.{IsFed};
 ghost use Rattle.mc_range.specs.Joining.{FirstDifference, IsJoined, JoinRefused};
 ghost use Rattle.mc_range.specs.Serving.{AreHeads, HoldsFilm, heads_of};
 ghost use Rattle.mc_range.specs.Tracks.{IsAdded, intervals, queue_under, retracked, selected_under, spans_touch};
-ghost use Rattle.mc_range.specs.Filmed.{IsPart, same_kinds, start_only};
+ghost use Rattle.mc_range.specs.Filmed.{AreBounds, HaveFrames, IsPart, same_kinds, start_only};
+ghost use Rattle.mc_range.specs.Cutting.{IsCut, weight_from};
+ghost use Rattle.mc_range.specs.Bounds.{bounds_of};
+ghost use Rattle.mc_range.specs.declared.cutting.Cut.{Cut};
+ghost use Rattle.mc_journal.specs.Used as used;
+ghost use Rattle.mc_journal.specs.Ranges.{bounds};
+ghost use Rattle.mc_journal.specs.Views.{forward_in, range_weight, spans_shown};
+ghost use Rattle.mc_journal.specs.Stands.{cut_range};
+ghost use Rattle.mc_packet.specs.declared.cache.Heads.{Heads};
+ghost use Rattle.mc_journal.specs.Films.{rank};
 
 /// A range serves a seek exactly where the definition over the film's list says so, and its heads
 /// are the places that the definition gives. So what is proved of serving ranges over lists holds of
@@ -75,4 +84,25 @@ pub fn retracked_ranges()
 pub fn added_ranges()
     ensures range { (kind : Kind) (track start : ℕ) (mark : Mark) (old new : RangeState) → IsRange old → IsRange new → selected_under kind old.set ≡ Some track → queue_under kind old.queues ≡ None → IsAdded kind track start mark old new → as_range new ≡ add_spans old.set (start_only kind start mark) (as_range old) }
     ensures film { (ps : List Told) (kind : Kind) (track start : ℕ) (mark : Mark) (old new : RangeState) → IsRange new → queue_under kind old.queues ≡ None → IsAdded kind track start mark old new → HoldsFilm ps old → HoldsFilm ps new }
+{}
+
+/// What a range shows of itself is what the definitions show over the film's list: its spans, its
+/// weight, the weight from the readers' places on, and its bounds.
+pub fn shown_ranges()
+    ensures spans { (r : RangeState) → IsRange r → HaveFrames (intervals r.queues) → spans_shown r.set (as_range r) ≡ intervals r.queues }
+    ensures weight { (ps : List Told) (r : RangeState) → IsRange r → HoldsFilm ps r → range_weight ps r.set (as_range r) ≡ weight_of_all r.queues }
+    ensures ahead { (ps : List Told) (r : RangeState) (place : ℕ → ℕ) (heads : Heads) → IsRange r → HoldsFilm ps r → AreHeads r.set place heads → forward_in ps r.set place (Some (as_range r)) ≡ weight_from heads r.queues }
+    ensures bounds { (ps : List Told) (r : RangeState) → HoldsFilm ps r → bounds_of r ≡ bounds ps r.set (as_range r) }
+{}
+
+/// A drop is the one of the definitions over the film's list, and what is left holds exactly the
+/// film's packets still. Nothing is dropped only where the definitions have no drop. Each drop
+/// makes the range lighter, and no packet at a head or behind it goes.
+pub fn cut_ranges()
+    ensures cut { (ps : List Told) (old new : RangeState) (upto : ℕ → Option ℕ) (heads : Option Heads) (c : Cut) → IsRange old → IsRange new → HoldsFilm ps old → AreBounds old.set upto heads → IsCut heads old new (Some c) → used.IsCut ps old.set upto c.track (rank c.from) (rank c.to) (as_range old) }
+    ensures range { (ps : List Told) (old new : RangeState) (upto : ℕ → Option ℕ) (heads : Option Heads) (c : Cut) → IsRange old → IsRange new → HoldsFilm ps old → AreBounds old.set upto heads → IsCut heads old new (Some c) → as_range new ≡ cut_range c.track (rank c.to) (as_range old) }
+    ensures film { (ps : List Told) (old new : RangeState) (upto : ℕ → Option ℕ) (heads : Option Heads) (c : Cut) → IsRange old → IsRange new → HoldsFilm ps old → AreBounds old.set upto heads → IsCut heads old new (Some c) → HoldsFilm ps new }
+    ensures without { (ps : List Told) (old new : RangeState) (upto : ℕ → Option ℕ) (heads : Option Heads) → IsRange old → HoldsFilm ps old → AreBounds old.set upto heads → IsCut heads old new None → used.victim ps old.set upto (as_range old) ≡ None }
+    ensures lighter { (heads : Option Heads) (old new : RangeState) (c : Cut) → IsRange old → IsCut heads old new (Some c) → weight_of_all new.queues < weight_of_all old.queues }
+    ensures spares { (heads : Heads) (old new : RangeState) (c : Option Cut) → IsCut (Some heads) old new c → weight_from heads new.queues ≡ weight_from heads old.queues }
 {}

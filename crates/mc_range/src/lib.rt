@@ -20,8 +20,8 @@ mod tracks;
 
 pub use cutting::Cut;
 pub use law::{
-    added_ranges, begun_ranges, fed_ranges, joined_ranges, retracked_ranges, served_films,
-    touching_spans,
+    added_ranges, begun_ranges, cut_ranges, fed_ranges, joined_ranges, retracked_ranges,
+    served_films, shown_ranges, touching_spans,
 };
 pub use mc_packet::NoMemory;
 pub use mc_queue::UnionError;

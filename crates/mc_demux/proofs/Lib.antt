@@ -9,3 +9,4 @@ pub mod Laws
 pub mod ByKind
 pub mod Pruned
 pub mod Trimmed
+pub mod FilmDrops

@@ -10,3 +10,4 @@ pub mod ByKind
 pub mod Pruned
 pub mod Trimmed
 pub mod FilmDrops
+pub mod Droppings

@@ -11,3 +11,4 @@ pub mod Pruned
 pub mod Trimmed
 pub mod FilmDrops
 pub mod Droppings
+pub mod Trims

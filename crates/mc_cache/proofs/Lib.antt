@@ -4,3 +4,6 @@ pub mod Chosen
 pub mod Told
 pub mod Spare
 pub mod United
+pub mod Reselected
+pub mod Pruned
+pub mod Started

@@ -145,6 +145,14 @@ pub others_light : (c : Option RangeState) (rs : List RangeState) (n : ℕ) → 
 others_light None rs n l = l
 others_light (Some r) rs n l = omega arith
 
+pub front_light : (c : Option RangeState) (rs : List RangeState) (n : ℕ) → weight_of (in_front c rs) < n → weight_of (in_front c []) < n
+front_light None rs n l = omega arith
+front_light (Some r) rs n l = omega arith
+
+pub front_parts : (c : Option RangeState) (rs : List RangeState) → weight_of (in_front c []) + weight_of rs ≡ weight_of (in_front c rs)
+front_parts None rs = omega arith
+front_parts (Some r) rs = omega arith
+
 pub found_passes : (test : RangeState → Bool) (rs : List RangeState) (r : RangeState) → find test rs ≡ Some r → test r ≡ true
 found_passes test [] r e = absurd (cc)
 found_passes test (q ∷ rs) r e = elim (cases_Bool (test q)) [

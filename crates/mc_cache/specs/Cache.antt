@@ -1,7 +1,9 @@
 -- A cache as contracts see it: the range that is read, if there is one, the others in order of last use, and its room.
-use Rattle.std.specs.Prelude.{◌≡◌, ◌≤◌, ◌<◌, ℕ, ◌+◌, ◌^◌, nat_lt, Bool, true, List, [], ◌∷◌, length, map, Option, Some, None, option_map, if◌then◌else◌, IfSome}
+use Rattle.std.specs.Prelude.{◌≡◌, ◌≤◌, ◌<◌, ℕ, ◌+◌, ◌^◌, nat_lt, Bool, true, List, [], ◌∷◌, length, map, Option, Some, None, option_map, if◌then◌else◌, IfSome, IsSomeAnd}
 use Rattle.std.specs.List.{AllByRecursion}
 use Rattle.mc_packet.specs.declared.cache.Limits.{Limits}
+use Rattle.mc_packet.specs.declared.choice.Choice.{Choice}
+use Rattle.mc_packet.specs.declared.choice.Starts.{Starts}
 use Rattle.mc_packet.specs.declared.walk.Ending.{Ending}
 use Rattle.mc_packet.specs.declared.walk.Mark.{Mark}
 use Rattle.mc_journal.specs.Stands.{Stand}
@@ -23,6 +25,10 @@ pub record CacheState : Type 0 where
 -- the same with another current range
 abbrev pub with_current : Option RangeState → CacheState → CacheState
 with_current current st = record st { current = current }
+
+-- the same with another range held ready
+abbrev pub with_prepared : Option Prepared → CacheState → CacheState
+with_prepared prepared st = record st { prepared = prepared }
 
 -- the same with other others
 abbrev pub with_others : List RangeState → CacheState → CacheState
@@ -87,6 +93,10 @@ pub record Fewer (r : RangeState) (rs left : List RangeState) : Type 0 where
 pub record IsReady (p : Prepared) : Type 0 where
   pub begun : IsBegun p.range.set p.starts p.range
   pub range : IsRange p.range
+
+-- the range is one that is held ready for a start of this set
+abbrev pub IsReadyFor : Choice → Starts → RangeState → Option Prepared → Type 0
+IsReadyFor set starts r ready = IsSomeAnd ready (λ p. (p.starts ≡ starts) × (p.range.set ≡ set) × (r ≡ p.range))
 
 pub record IsCache (st : CacheState) : Type 0 where
   pub current : IfSome st.current IsRange

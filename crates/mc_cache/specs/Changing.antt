@@ -43,6 +43,13 @@ pub record IsSameButRoom (old new : CacheState) : Type 0 where
   pub start_room : old.start_room ≤ new.start_room
   pub join_room : old.join_room ≤ new.join_room
 
+-- only the room for other ranges and for what is told of them has grown
+pub record IsOnlyRoomier (old new : CacheState) : Type 0 where
+  pub same : new ≡ record old { places = new.places; start_room = new.start_room; join_room = new.join_room }
+  pub places : old.places ≤ new.places
+  pub start_room : old.start_room ≤ new.start_room
+  pub join_room : old.join_room ≤ new.join_room
+
 -- ---- new, left, chosen
 
 pub record IsNew (limits : Limits) (st : CacheState) : Type 0 where
@@ -82,6 +89,15 @@ pub record IsStarted (set : Choice) (starts : Starts) (drops : List Removal) (ol
   pub current : IsSomeAnd new.current (λ r. IsBegun set starts r)
   pub others_is : new.others ≡ take 9 (left_with old.current old.others)
   pub told : drops ≡ removals_of_all (TooMany 11) (drop 9 (left_with old.current old.others))
+
+-- nine of the others stay
+pub record KeepsNine (old new : CacheState) : Type 0 where
+  pub limits_is : new.limits ≡ old.limits
+  pub current_is : new.current ≡ old.current
+  pub others_is : new.others ≡ take 9 old.others
+  pub places_is : new.places ≡ old.places
+  pub join_room_is : new.join_room ≡ old.join_room
+  pub prepared_is : new.prepared ≡ old.prepared
 
 -- ---- fed
 

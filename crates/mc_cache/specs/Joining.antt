@@ -9,7 +9,7 @@ use Rattle.mc_queue.specs.declared.queue.UnionError.TheVariants.{Mismatch as Dif
 use Rattle.mc_range.specs.Range.{RangeState, IsRoomier, meets_range}
 use Rattle.mc_range.specs.Joining.{IsJoined, JoinRefused}
 use Rattle.mc_cache.specs.Cache.{CacheState, without_first}
-use Rattle.mc_cache.specs.Changing.{KeepsRest}
+use Rattle.mc_cache.specs.Changing.{IsSameButRoom}
 use Rattle.mc_cache.specs.Removals.{removals_of}
 use Rattle.mc_cache.specs.Rooms.{meets_any}
 
@@ -34,14 +34,17 @@ pub data Joins (first : RangeState) (beside : List RangeState) : RangeState → 
       → Joins first beside r' (others_left r rs) n (drops ++ removals_of (Mismatch at ours other) o)
 
 -- joins of the current range, if there is one, until no other touches it
-abbrev pub JoinsAll : Option RangeState → List RangeState → Option RangeState → List RangeState → ℕ → List Removal → Type 0
-JoinsAll None rs r' rs' n drops = (r' ≡ None) × (rs' ≡ rs) × (n ≡ 0) × (drops ≡ [])
-JoinsAll (Some r) rs None rs' n drops = ⊥
-JoinsAll (Some r) rs (Some r') rs' n drops = (q : RangeState) × IsRoomier r q × Joins q rs r' rs' n drops × (meets_any r' rs' ≡ false)
+abbrev pub JoinsFrom : Option RangeState → List RangeState → Option RangeState → List RangeState → ℕ → List Removal → Type 0
+JoinsFrom None rs r' rs' n drops = (r' ≡ None) × (rs' ≡ rs) × (n ≡ 0) × (drops ≡ [])
+JoinsFrom (Some r) rs None rs' n drops = ⊥
+JoinsFrom (Some r) rs (Some r') rs' n drops = Joins r rs r' rs' n drops × (meets_any r' rs' ≡ false)
 
+-- what a call leaves: it makes room, and joins
 pub record IsJoinedUp (n : ℕ) (drops : List Removal) (old new : CacheState) : Type 0 where
+  pub roomy : CacheState
+  pub room : IsSameButRoom old roomy
+  pub joins : JoinsFrom roomy.current roomy.others new.current new.others n drops
   pub limits_is : new.limits ≡ old.limits
-  pub joins : JoinsAll old.current old.others new.current new.others n drops
 
 -- ---- one of them
 

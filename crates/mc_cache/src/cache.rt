@@ -2,19 +2,37 @@ ghost use Rattle.std.specs.Prelude.{◌≡◌, ◌≤◌, ◌<◌, ◌+◌, ◌^
 ghost use Rattle.mc_packet.specs.Shape.{HasShape};
 ghost use Rattle.mc_journal.specs.Choices.{is_distinct};
 ghost use Rattle.mc_queue.specs.Places.{weights};
-ghost use Rattle.mc_range.specs.Range.{AtMark, IsRange};
+ghost use Rattle.mc_range.specs.Range.{AtMark, IsBegun, IsRange};
 ghost use Rattle.mc_range.specs.Growing.{IsFed, lacks_room, taker};
-ghost use Rattle.mc_cache.specs.Cache.{IsCache, count_of, ending_in, in_front, mark_in, ranges_of, weight_in, weight_of, with_current, with_others, without_first, Fewer};
-ghost use Rattle.mc_cache.specs.Changing.{AddsTrack, Feeds, IsChosen, IsLeft, IsNew, IsRetracked, IsSameButRoom, IsStarted, MayAdd, heads_in, server, serves};
+ghost use Rattle.mc_cache.specs.Cache.{IsCache, count_of, ending_in, in_front, mark_in, ranges_of, weight_in, weight_of, with_current, with_others, with_prepared, without_first, Fewer};
+ghost use Rattle.std.specs.Prelude.{drop};
+ghost use Rattle.mc_journal.specs.declared.record.Cause.TheVariants.{TooMany};
+ghost use Rattle.mc_cache.specs.Joining.{IsJoinedUp};
+ghost use Rattle.mc_cache.specs.Pruning.{Prunes, ahead_in, back_of};
+ghost use Rattle.mc_cache.specs.Removals.{removals_of_all};
+ghost use Rattle.mc_cache.specs.Rooms.{HasRoomFor, HasRoomToJoin, HasRoomToStart, IsPrepared};
+ghost use Rattle.mc_cache.specs.Changing.{AddsTrack, Feeds, IsChosen, IsLeft, IsNew, IsRetracked, IsOnlyRoomier, IsSameButRoom, IsStarted, KeepsNine, MayAdd, heads_in, server, serves};
 
-use crate::listing::{count_all, holds, take_serving};
-use crate::prepared::Prepared;
-use crate::removals::Drops;
-use mc_journal::Removal;
+use crate::listing::{count_all, holds, take_serving, weight_all};
+use crate::parts::{ahead_in, cut_next, join_others, keep_nine, look_in, reselect, tell_lost, weight_in};
+use crate::prepared::{Prepared, take_if};
+use crate::removals::{Drops, push_ranges};
+use crate::rooms::{reserve_in, touches_any};
+use mc_journal::{Cause, Removal};
 use mc_packet::{Choice, Chunk, Dir, Ending, Heads, Kind, Limits, Mark, NoMemory, Starts, TrackNo};
 use mc_range::Range;
 use std::alloc::Global;
 use std::marker::Model;
+use std::mem::replace;
+
+/// What joins of the current range made.
+#[derive(Debug, Drop)]
+pub struct Joins {
+    /// How many other ranges it was united with.
+    pub joined: u32,
+    /// What is told of others that went since their packets differ.
+    pub dropped: Drops,
+}
 
 /// The ranges of a film that were read and are kept: the current one, which is read on and from
 /// which readers are served, and at most nine others, in order of last use, each with packets.
@@ -241,5 +259,180 @@ impl Cache {
         ensures cache { IsCache self.now }
     {
         count_in(&self.current) + count_all(self.others.as_slice())
+    }
+
+    // ---- starts
+
+    #[tactic(auto, using(crate::proofs::Lists::others_few))]
+    fn reserve_to_start(&mut self) -> Result<(), NoMemory>
+        ensures same { IsOnlyRoomier self.old self.new }
+        ensures ok { OnOk result (HasRoomToStart self.new) }
+        ensures within { OnErr result (HasRoomToStart self.old → ⊥) }
+        ensures cache { IsCache self.new }
+    {
+        self.start_drops.clear();
+        self.start_drops.reserve(3)?;
+        let more = 10 - self.others.len();
+        self.others.reserve(more)
+    }
+
+    /// The range that is held ready for these starts, or a new one.
+    fn take_ready(&mut self, set: Choice, starts: &Starts) -> Range
+        requires distinct { is_distinct set ≡ true }
+        requires video { AtMark starts.now.mark.pos starts.now.video }
+        requires audio { AtMark starts.now.mark.pos starts.now.audio }
+        requires sub { AtMark starts.now.mark.pos starts.now.sub }
+        ensures begun { IsBegun set starts.now result }
+        ensures range { IsRange result }
+        ensures ready { IfSome self.old.prepared (λ p. p.starts ≡ starts.now → p.range.set ≡ set → result ≡ p.range) }
+        ensures same { self.new ≡ with_prepared None self.old }
+        ensures cache { IsCache self.new }
+    {
+        let ready = take_if(self.prepared.take(), set, starts);
+        match ready {
+            Some(range) => range,
+            None => Range::new(self.alloc, set, starts),
+        }
+    }
+
+    #[tactic(auto, using(crate::proofs::Lists::others_few))]
+    fn drop_eleventh(&mut self) -> Drops
+        requires none { self.old.current ≡ None }
+        requires room { 3 ≤ self.old.start_room }
+        ensures told { result ≡ removals_of_all (TooMany 11) (drop 9 self.old.others) }
+        ensures left { KeepsNine self.old self.new }
+        ensures cache { IsCache self.new }
+    {
+        let mut drops = replace(&mut self.start_drops, Vec::new(self.alloc));
+        drops.clear();
+        keep_nine(&mut self.others, &mut drops);
+        Drops::from_vec(drops)
+    }
+
+    /// Makes a new range of a set the current one, which begins at its starts, and gives what is told
+    /// of the range that goes for it where eleven would stand. The one that was current stands in front
+    /// of the others then, unless it holds no packet. `NoMemory` comes only without the room that
+    /// `make_room_to_start` makes; the ranges are then as they were.
+    #[tactic(auto, using(crate::proofs::Started::begun_light, crate::proofs::Started::room_to_join))]
+    pub fn start_range(&mut self, set: Choice, starts: &Starts) -> Result<Drops, NoMemory>
+        requires distinct { is_distinct set ≡ true }
+        requires video { AtMark starts.now.mark.pos starts.now.video }
+        requires audio { AtMark starts.now.mark.pos starts.now.audio }
+        requires sub { AtMark starts.now.mark.pos starts.now.sub }
+        ensures ok { IfOk result (λ drops. IsStarted set starts.now drops self.old self.new) }
+        ensures room { OnOk result (IsPrepared set starts.now self.old → HasRoomToJoin self.new) }
+        ensures err { OnErr result (IsSameButRoom self.old self.new) }
+        ensures within { OnErr result (HasRoomToStart self.old → ⊥) }
+        ensures cache { IsCache self.new }
+    {
+        self.reserve_to_start()?;
+        let range = self.take_ready(set, starts);
+        self.leave_current();
+        let drops = self.drop_eleventh();
+        self.put_current(range);
+        Ok(drops)
+    }
+
+    /// Selects other tracks: the current range keeps the queues of tracks that stay under their kind,
+    /// and all other ranges go; without any track no range stays. Gives what is told of the packets
+    /// that go. `NoMemory` leaves all as it was.
+    pub fn retrack(&mut self, set: Choice) -> Result<Drops, NoMemory>
+        requires distinct { is_distinct set ≡ true }
+        ensures ok { IfOk result (λ drops. IsRetracked set drops self.old self.new) }
+        ensures err { OnErr result (self.new ≡ self.old) }
+        ensures cache { IsCache self.new }
+    {
+        let mut drops = Vec::with_capacity(self.alloc, 30)?;
+        tell_lost(&mut drops, &self.current, set);
+        push_ranges(&mut drops, self.others.as_slice(), Cause::TrackChanged);
+        self.others.clear();
+        reselect(&mut self.current, set);
+        Ok(Drops::from_vec(drops))
+    }
+
+    #[tactic(auto, using(crate::proofs::Lists::others_light))]
+    fn reserve_to_join(&mut self) -> Result<(), NoMemory>
+        ensures same { IsSameButRoom self.old self.new }
+        ensures ok { OnOk result ((30 ≤ self.new.join_room) × IfSome self.new.current (λ r. HasRoomFor self.new.others 0 r)) }
+        ensures within { OnErr result ((30 ≤ self.old.join_room) × IfSome self.old.current (λ r. HasRoomFor self.old.others 0 r) → ⊥) }
+        ensures cache { IsCache self.new }
+    {
+        self.join_drops.clear();
+        self.join_drops.reserve(30)?;
+        reserve_in(&mut self.current, self.others.as_slice(), 0)
+    }
+
+    /// Joins the current range with each other one that touches it, in order of last use, as long as
+    /// one does. One whose packets differ from the current range's goes instead, and is told of.
+    /// `NoMemory` comes only without the room that `make_room_to_start` and `make_room_to_feed` make;
+    /// the ranges are then as they were.
+    #[tactic(auto, using(crate::proofs::Started::not_joined))]
+    pub fn join_current(&mut self) -> Result<Joins, NoMemory>
+        ensures ok { IfOk result (λ j. IsJoinedUp j.joined j.dropped self.old self.new) }
+        ensures err { OnErr result (IsSameButRoom self.old self.new) }
+        ensures within { OnErr result (HasRoomToJoin self.old → ⊥) }
+        ensures cache { IsCache self.new }
+    {
+        if !touches_any(&self.current, self.others.as_slice()) {
+            return Ok(Joins {
+                joined: 0,
+                dropped: Drops::new(self.alloc),
+            });
+        }
+        self.reserve_to_join()?;
+        let mut dropped = replace(&mut self.join_drops, Vec::new(self.alloc));
+        dropped.clear();
+        let joined = join_others(&mut self.current, &mut self.others, &mut dropped);
+        let dropped = Drops::from_vec(dropped);
+        Ok(Joins { joined, dropped })
+    }
+
+    /// Octets of the current range's packets at the heads or behind them.
+    #[tactic(auto, using(crate::proofs::Lists::front_light))]
+    pub fn forward(&self, heads: &Heads) -> u64
+        ensures value { result ≡ ahead_in heads.now self.now.current }
+        ensures cache { IsCache self.now }
+    {
+        ahead_in(&self.current, heads) as u64
+    }
+
+    /// Octets of all other cached packets.
+    #[tactic(auto, using(crate::proofs::Lists::front_parts))]
+    pub fn back(&self, heads: &Heads) -> u64
+        ensures value { result ≡ back_of heads.now self.now }
+        ensures cache { IsCache self.now }
+    {
+        let all = weight_in(&self.current) + weight_all(self.others.as_slice());
+        (all - ahead_in(&self.current, heads)) as u64
+    }
+
+    /// Lets `forward`, `back` and `prune` answer for these heads without a walk. Nothing changes that
+    /// can be seen.
+    pub fn look_from(&mut self, heads: &Heads)
+        ensures same { self.new ≡ self.old }
+        ensures cache { IsCache self.new }
+    {
+        look_in(&mut self.current, heads);
+    }
+
+    /// Makes the one next drop that the limit on octets behind the readers asks for: in the last of
+    /// the other ranges, else in the current one, of no packet at its head or behind it. `None` exactly
+    /// where those octets are within the limit; nothing has changed then. It takes no memory.
+    pub fn prune(&mut self, heads: &Heads) -> Option<Removal>
+        ensures value { Prunes heads.now result self.old self.new }
+        ensures cache { IsCache self.new }
+    {
+        self.look_from(heads);
+        let (back, max) = (self.back(heads), self.limits.back);
+        if back <= max {
+            return None;
+        }
+        let cut = cut_next(&mut self.current, &mut self.others, heads)?;
+        Some(Removal {
+            track: cut.track,
+            from: cut.from,
+            to: cut.to,
+            cause: Cause::Limit { back, max },
+        })
     }
 }

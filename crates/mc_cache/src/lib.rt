@@ -8,11 +8,12 @@
 mod cache;
 mod joining;
 mod listing;
+mod parts;
 mod prepared;
 mod removals;
 mod rooms;
 
-pub use cache::Cache;
+pub use cache::{Cache, Joins};
 pub use mc_journal::{Cause, Removal};
 pub use mc_packet::NoMemory;
 pub use removals::Drops;

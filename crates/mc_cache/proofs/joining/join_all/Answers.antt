@@ -15,25 +15,25 @@ loop-other-init c = record {
   space = c.requires.space;
   room = c.requires.room;
   number = omega arith;
-  range = c.mark.ensures.range;
+  range = c.mark-mark.ensures.range;
   kept = refl;
 }
 
-pub join_one-requires-clause-touch : goal.join_one-requires-clause-touch
-join_one-requires-clause-touch c =
+pub join_one-joined-requires-clause-touch : goal.join_one-joined-requires-clause-touch
+join_one-joined-requires-clause-touch c =
     let e : find (meets_range c.loop-other.range) c.loop-other.others.items ≡ Some c.in-Some.other = sym c.take_touching.ensures.found ∙ c.in-Some.is in
     found_passes (meets_range c.loop-other.range) c.loop-other.others.items c.in-Some.other e
 
-pub join_one-requires-clause-fits : goal.join_one-requires-clause-fits
-join_one-requires-clause-fits c =
+pub join_one-joined-requires-clause-fits : goal.join_one-joined-requires-clause-fits
+join_one-joined-requires-clause-fits c =
     let e : find (meets_range c.loop-other.range) c.loop-other.others.items ≡ Some c.in-Some.other = sym c.take_touching.ensures.found ∙ c.in-Some.is in
     let f = fewer (meets_range c.loop-other.range) c.loop-other.others.items c.in-Some.other c.loop-other.invariant.all e in
     let w = f.weight in
     let i = c.loop-other.invariant.fits in
     omega arith
 
-pub join_one-requires-clause-space : goal.join_one-requires-clause-space
-join_one-requires-clause-space c =
+pub join_one-joined-requires-clause-space : goal.join_one-joined-requires-clause-space
+join_one-joined-requires-clause-space c =
     let e : find (meets_range c.loop-other.range) c.loop-other.others.items ≡ Some c.in-Some.other = sym c.take_touching.ensures.found ∙ c.in-Some.is in
     let m = moved_room (meets_range c.loop-other.range) c.loop-other.others.items c.in-Some.other c.loop-other.range 0 e c.loop-other.invariant.space in
     only_room c.in-Some.other (without_first (meets_range c.loop-other.range) c.loop-other.others.items) 0 c.loop-other.range m
@@ -60,7 +60,7 @@ loop-other-preserved c =
     let w = f.weight in
     let l : length left ≡ length (without_first (meets_range r) rs) = ap (λ xs. length xs) k in
     let v : weight_of left ≡ weight_of (without_first (meets_range r) rs) = ap (λ xs. weight_of xs) k in
-    let j = c.join_one.ensures in
+    let j = c.join_one-joined.ensures in
     let x = j.weight in
     let y = j.few in
     let z = j.kept in
@@ -69,7 +69,7 @@ loop-other-preserved c =
     let p = i.room in
     let u = i.number in
     record {
-      steps = next_join c.args.range.now c.args.others.now.items r rs c.loop-other.joined (c.loop-other.joined + c.join_one.result) c.loop-other.drops.items c.join_one.new.drops.items o c.join_one.new.range j.value.0 left
+      steps = next_join c.args.range.now c.args.others.now.items r rs c.loop-other.joined (c.loop-other.joined + c.join_one-joined.result) c.loop-other.drops.items c.join_one-joined.new.drops.items o c.join_one-joined.new.range j.value.0 left
         i.steps (sym e) k j.value.2 (ap (λ t. c.loop-other.joined + t) j.value.1);
       all = rw k f.others;
       fits = omega arith;

@@ -133,17 +133,20 @@ chosen set t dir r st mid left last i n e m l z =
     let j : mid.join_room ≡ st.join_room = ap (λ (x : CacheState). x.join_room) m in
     let d : mid.prepared ≡ st.prepared = ap (λ (x : CacheState). x.prepared) m in
     let h = l.rest in
-    rw z (v.0, record {
-      current_is = sym v.0;
-      others_is = l.others_is ∙ ap (λ x. left_with x mid.others) c ∙ ap (λ x. left_with st.current x) o ∙ sym v.1;
-      rest = record {
-        limits_is = h.limits_is ∙ k;
-        places = let q = h.places in omega arith;
-        start_room = let q = h.start_room in omega arith;
-        join_room = let q = h.join_room in omega arith;
-        prepared_is = h.prepared_is ∙ d;
-      };
-    })
+    rw z (
+      v.0,
+      record {
+        current_is = sym v.0;
+        others_is = l.others_is ∙ ap (λ x. left_with x mid.others) c ∙ ap (λ x. left_with st.current x) o ∙ sym v.1;
+        rest = record {
+          limits_is = h.limits_is ∙ k;
+          places = let q = h.places in omega arith;
+          start_room = let q = h.start_room in omega arith;
+          join_room = let q = h.join_room in omega arith;
+          prepared_is = h.prepared_is ∙ d;
+        };
+      },
+    )
 
 pub on_some : (P : Type 0) (o : Option Heads) → P → OnSome o P
 on_some P None h = tt

@@ -32,15 +32,15 @@ three f g h fg fh gh (p ∷ ps) =
           let e = sum_by-cons weight_of_packet p (filter f ps) in
           rw (y, b, c) (omega arith)
       | inr n ↦ elim (cases_Bool (g p)) [
-          | inl y ↦
-              let c = gh p y in
-              let e = sum_by-cons weight_of_packet p (filter g ps) in
-              rw (n, y, c) (omega arith)
-          | inr m ↦ elim (cases_Bool (h p)) [
-              | inl y ↦ let e = sum_by-cons weight_of_packet p (filter h ps) in rw (n, m, y) (omega arith)
-              | inr k ↦ rw (n, m, k) (omega arith)
-            ]
+        | inl y ↦
+            let c = gh p y in
+            let e = sum_by-cons weight_of_packet p (filter g ps) in
+            rw (n, y, c) (omega arith)
+        | inr m ↦ elim (cases_Bool (h p)) [
+          | inl y ↦ let e = sum_by-cons weight_of_packet p (filter h ps) in rw (n, m, y) (omega arith)
+          | inr k ↦ rw (n, m, k) (omega arith)
         ]
+      ]
     ]
 
 abbrev test_of : Option QueueState → Packet → Bool
@@ -67,7 +67,7 @@ fed_weighs chunk old new i f =
     let u = grown (place_at chunk.to.pos) chunk.packets old.queues.audio new.queues.audio f.queues.audio in
     let s = grown (place_at chunk.to.pos) chunk.packets old.queues.sub new.queues.sub f.queues.sub in
     let all = three (test_of old.queues.video) (test_of old.queues.audio) (test_of old.queues.sub)
-      (excludes old.queues.video old.queues.audio a.video_audio) (excludes old.queues.video old.queues.sub a.video_sub) (excludes old.queues.audio old.queues.sub a.audio_sub) chunk.packets in
+    (excludes old.queues.video old.queues.audio a.video_audio) (excludes old.queues.video old.queues.sub a.video_sub) (excludes old.queues.audio old.queues.sub a.audio_sub) chunk.packets in
     omega arith
 
 pub fed_or_same : (chunk : Chunk) (old new : RangeState) (result : Result (Option ℕ) AllocError) → IsRange old → OnOk result (IsFed chunk old new) → OnErr result ((new ≡ old) × (lacks_room chunk.packets old.queues ≡ true))

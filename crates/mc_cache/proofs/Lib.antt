@@ -7,3 +7,6 @@ pub mod United
 pub mod Reselected
 pub mod Pruned
 pub mod Started
+pub mod Shows
+pub mod Standing
+pub mod Feeding

@@ -3,6 +3,7 @@ use Rattle.std.proofs.Common.{◌≡◌, ℕ, suc, ◌+◌, ◌<◌, ◌≤◌, 
 use Rattle.std.specs.Prelude.{IsSomeAnd, if◌then◌else◌, nat_lt, nat_le}
 use Rattle.std.specs.List.{AllByRecursion}
 use Rattle.std.proofs.lemmas.Bool.{cases_Bool, ltb-false, ltb-true}
+use Rattle.std.proofs.lemmas.List.{append-nil, length-append}
 use Rattle.mc_packet.specs.declared.packet.Packet.{Packet}
 use Rattle.mc_packet.specs.declared.packet.Pos.{Pos}
 use Rattle.mc_packet.specs.declared.cache.Heads.{Heads}
@@ -18,7 +19,8 @@ use Rattle.mc_range.specs.declared.queues.Queues.{Queues}
 use Rattle.mc_range.specs.Range.{RangeState, IsRange, QueueIn, count, weight_in as weight_of_queue}
 use Rattle.mc_range.specs.Tracks.{queue_under, with_queue}
 use Rattle.mc_range.specs.Cutting.{Cuts, CutsOne, IsCut, bound_under, cut_at, cuttable, earlier_victim, first_cuttable, head_under, victim, victim_in, victim_under, weight_ahead, weight_from}
-use Rattle.mc_cache.specs.Cache.{holds, weight_in}
+use Rattle.mc_cache.specs.Cache.{holds, in_front, weight_in, weight_of}
+use Rattle.mc_cache.specs.Pruning.{CutsLast, CutsRange}
 
 -- ---- without a drop there is no victim
 
@@ -136,3 +138,72 @@ cuts_weigh heads old new (Some v) c d =
 
 pub cut_weighs : (heads : Option Heads) (r q : RangeState) (c : Option Cut) → IsCut heads r q c → weight_in q ≤ weight_in r
 cut_weighs heads r q c i = cuts_weigh heads r.queues q.queues (victim heads r.queues) c i.queues
+
+-- ---- what a drop tells
+
+told_by : (heads : Option Heads) (r q : RangeState) (c : Option Cut) → IsSomeAnd c (λ x. c ≡ Some x) → IsCut heads r q c → IsSomeAnd c (λ x. IsCut heads r q (Some x))
+told_by heads r q None s i = absurd s
+told_by heads r q (Some x) s i = i
+
+pub ahead_told : (heads : Heads) (r q : RangeState) (c : Option Cut) → IsRange r → weight_from heads r.queues < weight_in r → IsCut (Some heads) r q c → IsSomeAnd c (λ x. IsCut (Some heads) r q (Some x))
+ahead_told heads r q c i l k = told_by (Some heads) r q c (some_cut_ahead heads r q c i l k) k
+
+-- the last of others is cut
+abbrev pub LastCut : List RangeState → RangeState → List RangeState → Cut → Type 0
+LastCut rs r new c = (q : RangeState) × IsCut None r q (Some c) × (new ≡ rs ++ (if holds q then q ∷ [] else [])) × IsRange q × (weight_of (q ∷ []) ≤ weight_of (r ∷ []))
+
+pub last_gone : (rs : List RangeState) (r q : RangeState) (c : Option Cut) (b : Bool) → holds r ≡ true → IsRange q → IsCut None r q c → b ≡ holds q → b ≡ false → IsSomeAnd c (λ x. LastCut rs r rs x)
+last_gone rs r q None b h i k e n = absurd (some_cut r q None h k)
+last_gone rs r q (Some c) b h i k e n =
+    let w = cut_weighs None r q (Some c) k in
+    let z : holds q ≡ false = sym e ∙ n in
+    (q, k, rw z (sym (append-nil rs)), i, omega arith)
+
+cuts_last : (xs : List RangeState) (r q : RangeState) (c : Cut) → IsCut None r q (Some c) → CutsLast (xs ++ r ∷ []) (xs ++ (if holds q then q ∷ [] else [])) c
+cuts_last [] r q c i = (q, i, refl)
+cuts_last (x ∷ []) r q c i = ((if holds q then q ∷ [] else []), (q, i, refl), refl)
+cuts_last (x ∷ y ∷ xs) r q c i = ((y ∷ xs) ++ (if holds q then q ∷ [] else []), cuts_last (y ∷ xs) r q c i, refl)
+
+cuts_range : (heads : Heads) (a : Option RangeState) (xs new : List RangeState) (r q : RangeState) (c : Cut) → IsCut None r q (Some c) → new ≡ xs ++ (if holds q then q ∷ [] else []) → CutsRange heads a (xs ++ r ∷ []) a new c
+cuts_range heads a [] new r q c i e = rw e (cuts_last [] r q c i, refl)
+cuts_range heads a (x ∷ xs) new r q c i e = rw e (cuts_last (x ∷ xs) r q c i, refl)
+
+pub next_value : (heads : Heads) (a : Option RangeState) (old xs new : List RangeState) (r : RangeState) (c : Option Cut) → old ≡ xs ++ r ∷ [] → IsSomeAnd c (λ x. LastCut xs r new x) → IsSomeAnd c (λ x. CutsRange heads a old a new x)
+next_value heads a old xs new r None e s = absurd s
+next_value heads a old xs new r (Some c) e s = rw e (cuts_range heads a xs new r s.0 c s.1 s.2)
+
+weight_both : (xs ys : List RangeState) → weight_of (xs ++ ys) ≡ weight_of xs + weight_of ys
+weight_both [] ys = omega arith
+weight_both (x ∷ xs) ys = let m = weight_both xs ys in omega arith
+
+last_weight : (xs : List RangeState) (r q : RangeState) → weight_of (q ∷ []) ≤ weight_of (r ∷ []) → weight_of (xs ++ (if holds q then q ∷ [] else [])) ≤ weight_of (xs ++ r ∷ [])
+last_weight xs r q l =
+    let b = weight_both xs (r ∷ []) in
+    elim (cases_Bool (holds q)) [
+      | inl y ↦ let a = weight_both xs (q ∷ []) in rw y (omega arith)
+      | inr n ↦ let a = weight_both xs [] in rw n (omega arith)
+    ]
+
+last_number : (xs : List RangeState) (r q : RangeState) → length (xs ++ (if holds q then q ∷ [] else [])) ≤ length (xs ++ r ∷ [])
+last_number xs r q =
+    let b = length-append xs (r ∷ []) in
+    elim (cases_Bool (holds q)) [
+      | inl y ↦ let a = length-append xs (q ∷ []) in rw y (omega arith)
+      | inr n ↦ let a = length-append xs [] in rw n (omega arith)
+    ]
+
+front_less : (a : Option RangeState) (xs ys : List RangeState) → weight_of xs ≤ weight_of ys → weight_of (in_front a xs) ≤ weight_of (in_front a ys)
+front_less None xs ys l = l
+front_less (Some r) xs ys l = omega arith
+
+front_fewer : (a : Option RangeState) (xs ys : List RangeState) → length xs ≤ length ys → length (in_front a xs) ≤ length (in_front a ys)
+front_fewer None xs ys l = l
+front_fewer (Some r) xs ys l = omega arith
+
+pub next_weight : (a : Option RangeState) (old xs new : List RangeState) (r : RangeState) (c : Option Cut) → old ≡ xs ++ r ∷ [] → IsSomeAnd c (λ x. LastCut xs r new x) → weight_of (in_front a new) ≤ weight_of (in_front a old)
+next_weight a old xs new r None e s = absurd s
+next_weight a old xs new r (Some c) e s = let k = s.2 in rw (e, k) (front_less a _ _ (last_weight xs r s.0 s.4))
+
+pub next_number : (a : Option RangeState) (old xs new : List RangeState) (r : RangeState) (c : Option Cut) → old ≡ xs ++ r ∷ [] → IsSomeAnd c (λ x. LastCut xs r new x) → length (in_front a new) ≤ length (in_front a old)
+next_number a old xs new r None e s = absurd s
+next_number a old xs new r (Some c) e s = let k = s.2 in rw (e, k) (front_fewer a _ _ (last_number xs r s.0))

@@ -8,7 +8,7 @@ use Rattle.mc_queue.specs.Queue.{QueueState, with_spare}
 use Rattle.mc_range.specs.declared.queues.Queues.{Queues}
 use Rattle.mc_range.specs.Range.{RangeState, AreRoomier, IsRoomier, Roomier, count, is_of, own, queue_of}
 use Rattle.mc_range.specs.Tracks.{count_of_all}
-use Rattle.mc_cache.specs.Cache.{count_in, count_of, weight_in, weight_of}
+use Rattle.mc_cache.specs.Cache.{count_in, count_of, in_front, weight_in, weight_of}
 use Rattle.mc_cache.specs.Rooms.{HasRoomFor, HasSpare, HasSpareFor, count_at, count_at_all}
 use Rattle.mc_cache.proofs.Lists.{ranges_weigh}
 
@@ -47,6 +47,13 @@ part_at_most track (r ∷ rs) (suc i) = let m = part_at_most track rs i in omega
 
 pub count_fits : (track : ℕ) (rs : List RangeState) (i : ℕ) → weight_of rs < 2 ^ 64 → count_at_all track (take i rs) < 2 ^ 60
 count_fits track rs i f = let a = all_at_most track rs in let b = ranges_weigh rs in let p = part_at_most track rs i in omega arith
+
+pub front_parts : (k : ℕ) (c : Option RangeState) (rs : List RangeState) → count_at_all k (in_front c []) + count_at_all k rs ≡ count_at_all k (in_front c rs)
+front_parts k None rs = omega arith
+front_parts k (Some r) rs = omega arith
+
+pub front_fits : (k : ℕ) (c : Option RangeState) (rs : List RangeState) → weight_of (in_front c rs) < 2 ^ 64 → count_at_all k (in_front c rs) < 2 ^ 60
+front_fits k c rs f = let a = all_at_most k (in_front c rs) in let b = ranges_weigh (in_front c rs) in omega arith
 
 -- ---- room that stays
 

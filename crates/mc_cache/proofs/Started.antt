@@ -45,9 +45,9 @@ any_left test None rs e = e
 any_left test (Some r) rs e = elim (cases_Bool (test r)) [
   | inl y ↦ rw y refl
   | inr m ↦ elim (cases_Bool (holds r)) [
-      | inl y ↦ let z : list_any test rs ≡ true = rw (y, m) at e in rw m z
-      | inr n ↦ let z : list_any test rs ≡ true = rw n at e in rw m z
-    ]
+    | inl y ↦ let z : list_any test rs ≡ true = rw (y, m) at e in rw m z
+    | inr n ↦ let z : list_any test rs ≡ true = rw n at e in rw m z
+  ]
 ]
 
 count_taken : (k n : ℕ) (rs : List RangeState) → count_at_all k (take n rs) ≤ count_at_all k rs
@@ -95,9 +95,11 @@ room_to_join set starts r st roomy ready left nine last o f rc ro rj l k e p = b
   where
     held : roomy.prepared ≡ st.prepared
     held = ap (λ (x : CacheState). x.prepared) o.same
+
     others_are : last.others ≡ take 9 (left_with st.current st.others)
     others_are =
         ap (λ (x : CacheState). x.others) e ∙ k.others_is ∙ ap (λ xs. take 9 xs) (l.others_is ∙ ap (λ x. left_with x ready.others) (rc ∙ ap (λ (x : CacheState). x.current) o.same) ∙ ap (λ xs. left_with st.current xs) (ro ∙ ap (λ (x : CacheState). x.others) o.same))
+
     drops_are : st.join_room ≤ last.join_room
     drops_are =
         let a = o.join_room in
@@ -106,8 +108,10 @@ room_to_join set starts r st roomy ready left nine last o f rc ro rj l k e p = b
         let d = rj in
         let g : last.join_room ≡ nine.join_room = ap (λ (x : CacheState). x.join_room) e in
         omega arith
+
     current_is : last.current ≡ Some r
     current_is = ap (λ (x : CacheState). x.current) e
+
     by_ready : (p : Option Prepared) → IfSome p (λ x. x.starts ≡ starts → x.range.set ≡ set → r ≡ x.range) → IsSomeAnd p (λ x. (x.starts ≡ starts) × (x.range.set ≡ set) × MayTake st.join_room (ranges_of st) x.range) → HasRoomToJoin last
     by_ready None f q = absurd q
     by_ready (Some x) f q =
@@ -143,3 +147,35 @@ joins_none (Some r) rs e = (unjoined, e)
 
 pub not_joined : (st : CacheState) → meets_in st.current st.others ≡ false → IsJoinedUp 0 [] st st
 not_joined st e = record { roomy = st; room = same_room st; joins = joins_none st.current st.others e; limits_is = refl }
+
+-- ---- held ready
+
+pub may_take : (d : ℕ) (rs : List RangeState) (r : RangeState) → 30 ≤ d → HasRoomFor rs 0 r → MayTake d rs r
+may_take d rs r l h = λ y. (l, h)
+
+pub never_takes : (d : ℕ) (rs : List RangeState) (r : RangeState) → meets_any r rs ≡ false → MayTake d rs r
+never_takes d rs r n = λ y. absurd (cc)
+
+start_kept : (track start : Option ℕ) (q n : Option QueueState) → StartsAt track start q → Roomier q n → StartsAt track start n
+start_kept None start q n s r = let e : q ≡ None = s in let z = rw e at r in z
+start_kept (Some k) None q n s r = let e : q ≡ None = s in let z = rw e at r in z
+start_kept (Some k) (Some at) None n s r = absurd s
+start_kept (Some k) (Some at) (Some q) None s r = absurd r
+start_kept (Some k) (Some at) (Some q) (Some n) s r =
+    let e = r.0 in
+    record {
+      track_is = ap (λ (x : QueueState). x.track) e ∙ s.track_is;
+      from_is = ap (λ (x : QueueState). x.from) e ∙ s.from_is;
+      to_is = ap (λ (x : QueueState). x.to) e ∙ s.to_is;
+      none_yet = ap (λ (x : QueueState). x.packets) e ∙ s.none_yet;
+    }
+
+pub begun_kept : (set : Choice) (starts : Starts) (r q : RangeState) → IsBegun set starts r → IsRoomier r q → IsBegun set starts q
+begun_kept set starts r q b i = record {
+  set_is = i.set_is ∙ b.set_is;
+  video = start_kept set.video starts.video r.queues.video q.queues.video b.video i.queues.video;
+  audio = start_kept set.audio starts.audio r.queues.audio q.queues.audio b.audio i.queues.audio;
+  sub = start_kept set.sub starts.sub r.queues.sub q.queues.sub b.sub i.queues.sub;
+  mark_is = i.mark_is ∙ b.mark_is;
+  no_ending = i.ending_is ∙ b.no_ending;
+}

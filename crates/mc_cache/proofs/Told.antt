@@ -24,7 +24,7 @@ row a b c = option_to_list a ++ (option_to_list b ++ option_to_list c)
 
 sorted : (v a s : Option Removal)
     → row ((ordered v (ordered a s).0).0) ((ordered (ordered v (ordered a s).0).1 (ordered a s).1).0) ((ordered (ordered v (ordered a s).0).1 (ordered a s).1).1)
-      ≡ put_all (option_to_list v) (put_all (option_to_list a) (option_to_list s))
+    ≡ put_all (option_to_list v) (put_all (option_to_list a) (option_to_list s))
 sorted None None None = refl
 sorted None None (Some s) = refl
 sorted None (Some a) None = refl
@@ -43,9 +43,9 @@ sorted (Some v) (Some a) None = elim (cases_Bool (nat_le v.track a.track)) [
 ]
 sorted (Some v) (Some a) (Some s) = elim (cases_Bool (nat_le a.track s.track)) [
   | inl y ↦ elim (cases_Bool (nat_le v.track a.track)) [
-      | inl x ↦ rw (y, x) (rw y refl)
-      | inr m ↦ rw (y, m) (elim (cases_Bool (nat_le v.track s.track)) [ inl z ↦ rw z refl | inr k ↦ rw k refl ])
-    ]
+    | inl x ↦ rw (y, x) (rw y refl)
+    | inr m ↦ rw (y, m) (elim (cases_Bool (nat_le v.track s.track)) [ inl z ↦ rw z refl | inr k ↦ rw k refl ])
+  ]
   | inr n ↦
       let g : nat_le s.track a.track ≡ true = (let l = leb-false a.track s.track n in le-leb s.track a.track (omega arith)) in
       elim (cases_Bool (nat_le v.track s.track)) [
@@ -80,7 +80,7 @@ pub told_lost : (r : RangeState) (cause : Cause) (set : Choice) (old : List Remo
     → a ≡ told_if r.queues cause r.set.audio (interval_of r.queues.audio) set.audio
     → s ≡ told_if r.queues cause r.set.sub (interval_of r.queues.sub) set.sub
     → ((old ++ option_to_list ((ordered v (ordered a s).0).0)) ++ option_to_list ((ordered (ordered v (ordered a s).0).1 (ordered a s).1).0)) ++ option_to_list ((ordered (ordered v (ordered a s).0).1 (ordered a s).1).1)
-      ≡ old ++ removals_in cause (lost_queues set r.queues)
+    ≡ old ++ removals_in cause (lost_queues set r.queues)
 told_lost r cause set old v a s i ev ea es =
     let x = told_kind r.queues r.mark cause r.set.video set.video r.queues.video i.held.video (λ k e. video_is r k i e) in
     let y = told_kind r.queues r.mark cause r.set.audio set.audio r.queues.audio i.held.audio (λ k e. audio_is r k i e) in

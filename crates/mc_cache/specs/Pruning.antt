@@ -1,5 +1,5 @@
 -- The one next drop that the limit on octets behind the readers asks for.
-use Rattle.std.specs.Prelude.{◌≡◌, ◌≤◌, ◌<◌, ℕ, ◌-◌, Bool, List, [], ◌∷◌, Option, Some, None, if◌then◌else◌, IsSomeAnd}
+use Rattle.std.specs.Prelude.{◌≡◌, ◌≤◌, ◌<◌, ℕ, ◌-◌, Bool, List, [], ◌∷◌, Option, Some, None, if◌then◌else◌}
 use Rattle.mc_packet.specs.declared.cache.Heads.{Heads}
 use Rattle.mc_journal.specs.declared.record.Cause.TheVariants.{Limit}
 use Rattle.mc_journal.specs.declared.record.Cause.{Cause}
@@ -29,9 +29,15 @@ CutsLast [] new c = ⊥
 CutsLast (r ∷ []) new c = (q : RangeState) × IsCut None r q (Some c) × (new ≡ (if holds q then q ∷ [] else []))
 CutsLast (r ∷ o ∷ rs) new c = (rest : List RangeState) × CutsLast (o ∷ rs) rest c × (new ≡ r ∷ rest)
 
+-- the current range is cut, up to the heads at most
+abbrev pub CutsFront : Heads → Option RangeState → Option RangeState → Cut → Type 0
+CutsFront heads None q c = ⊥
+CutsFront heads (Some r) None c = ⊥
+CutsFront heads (Some r) (Some q) c = IsCut (Some heads) r q (Some c)
+
 -- without others the current range, up to the heads at most
 abbrev pub CutsRange : Heads → Option RangeState → List RangeState → Option RangeState → List RangeState → Cut → Type 0
-CutsRange heads current [] current' others' c = IsSomeAnd current (λ r. IsSomeAnd current' (λ q. IsCut (Some heads) r q (Some c))) × (others' ≡ [])
+CutsRange heads current [] current' others' c = CutsFront heads current current' c × (others' ≡ [])
 CutsRange heads current (r ∷ rs) current' others' c = CutsLast (r ∷ rs) others' c × (current' ≡ current)
 
 abbrev pub removal_by : Cause → Cut → Removal

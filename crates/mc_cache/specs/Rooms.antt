@@ -83,6 +83,10 @@ meets_then upto r o = is_same_set r.set o.set && spans_touch r.set (longer_spans
 abbrev pub meets_any_then : Pos → RangeState → List RangeState → Bool
 meets_any_then upto r rs = list_any (meets_then upto r) rs
 
+abbrev pub meets_then_in : Pos → Option RangeState → List RangeState → Bool
+meets_then_in upto None rs = false
+meets_then_in upto (Some r) rs = meets_any_then upto r rs
+
 -- the range has room for the packets of a part, and where it then touches another, also for what the others hold
 pub record MayTakePart (chunk : Chunk) (drops : ℕ) (rs : List RangeState) (r : RangeState) : Type 0 where
   pub alone : HasRoomFor [] (length chunk.packets) r
@@ -91,13 +95,3 @@ pub record MayTakePart (chunk : Chunk) (drops : ℕ) (rs : List RangeState) (r :
 -- neither a feed of this part nor the joins after it can be refused
 abbrev pub HasRoomToFeed : Chunk → CacheState → Type 0
 HasRoomToFeed chunk st = IfSome st.current (MayTakePart chunk st.join_room st.others)
-
--- ---- what a call made room for
-
--- for a start and the joins after it
-abbrev pub ReadyToStart : Option (Choice × Starts) → CacheState → Type 0
-ReadyToStart start st = IfSome start (λ s. HasRoomToStart st × IsPrepared s.0 s.1 st)
-
--- for a part and the joins after it
-abbrev pub ReadyToFeed : Option Chunk → CacheState → Type 0
-ReadyToFeed chunk st = IfSome chunk (λ c. HasRoomToFeed c st)

@@ -11,18 +11,23 @@ ghost use Rattle.std.specs.Prelude.{drop};
 ghost use Rattle.mc_journal.specs.declared.record.Cause.TheVariants.{TooMany};
 ghost use Rattle.mc_cache.specs.Joining.{IsJoinedUp};
 ghost use Rattle.mc_cache.specs.Pruning.{Prunes, ahead_in, back_of};
+ghost use Rattle.mc_cache.specs.Shown.{view_of};
 ghost use Rattle.mc_cache.specs.Removals.{removals_of_all};
-ghost use Rattle.mc_cache.specs.Rooms.{HasRoomFor, HasRoomToJoin, HasRoomToStart, IsPrepared};
+ghost use Rattle.mc_cache.specs.Rooms.{HasRoomFor, HasRoomToFeed, HasRoomToJoin, HasRoomToStart, IsPrepared};
 ghost use Rattle.mc_cache.specs.Changing.{AddsTrack, Feeds, IsChosen, IsLeft, IsNew, IsRetracked, IsOnlyRoomier, IsSameButRoom, IsStarted, KeepsNine, MayAdd, heads_in, server, serves};
 
 use crate::listing::{count_all, holds, take_serving, weight_all};
-use crate::parts::{ahead_in, cut_next, join_others, keep_nine, look_in, reselect, tell_lost, weight_in};
+use crate::parts::{
+    ahead_in, cut_next, join_others, keep_nine, look_in, reselect, tell_lost, weight_in,
+};
 use crate::prepared::{Prepared, take_if};
 use crate::removals::{Drops, push_ranges};
-use crate::rooms::{reserve_in, touches_any};
+use crate::rooms::{make_ready, reserve_in, touches_any, touches_then};
+use crate::views::{begins_in, show_all};
 use mc_journal::{Cause, Removal};
 use mc_packet::{
-    Choice, Chunk, Dir, Ending, Heads, Kind, Limits, Mark, NoMemory, Packet, Pos, Starts, TrackNo,
+    CacheView, Choice, Chunk, Dir, Ending, Heads, Kind, Limits, Mark, NoMemory, Packet, Pos, Starts,
+    TrackNo,
 };
 use mc_range::Range;
 use std::alloc::Global;
@@ -229,6 +234,7 @@ impl Cache {
     /// Feeds the current range a part of the film that begins at its mark, and gives the track that
     /// took packets. `NoMemory` comes only where the queue of that track had less room than it would
     /// take packets; nothing has changed then.
+    #[tactic(auto, using(crate::proofs::Feeding::fed_room))]
     pub fn feed(&mut self, chunk: Chunk) -> Result<Option<TrackNo>, NoMemory>
         requires current { IsSomeAnd self.old.current (λ r. chunk.from ≡ r.mark) }
         requires shape { HasShape chunk }
@@ -237,6 +243,7 @@ impl Cache {
         ensures taken { IfOk result (λ track. IfSome self.old.current (λ r. track ≡ taker chunk.packets r.queues)) }
         ensures err { OnErr result (self.new ≡ self.old) }
         ensures lacks { OnErr result (IfSome self.old.current (λ r. lacks_room chunk.packets r.queues ≡ true)) }
+        ensures room { OnOk result (HasRoomToFeed chunk self.old → HasRoomToJoin self.new) }
         ensures cache { IsCache self.new }
     {
         feed_in(&mut self.current, chunk)
@@ -313,6 +320,65 @@ impl Cache {
         Drops::from_vec(drops)
     }
 
+    /// Makes room for a start of this set, and for the joins after it: a range is held ready that has
+    /// room for the packets of all ranges, where one of them touches it. Only the room changes.
+    pub fn make_room_to_start(&mut self, set: Choice, starts: &Starts) -> Result<(), NoMemory>
+        requires distinct { is_distinct set ≡ true }
+        requires video { AtMark starts.now.mark.pos starts.now.video }
+        requires audio { AtMark starts.now.mark.pos starts.now.audio }
+        requires sub { AtMark starts.now.mark.pos starts.now.sub }
+        ensures same { IsSameButRoom self.old self.new }
+        ensures ok { OnOk result (HasRoomToStart self.new) }
+        ensures joins { OnOk result (IsPrepared set starts.now self.new) }
+        ensures cache { IsCache self.new }
+    {
+        self.reserve_to_start()?;
+        let ready = make_ready(
+            self.alloc,
+            set,
+            starts,
+            &self.current,
+            self.others.as_slice(),
+            &mut self.join_drops,
+        )?;
+        self.prepared = Some(ready);
+        Ok(())
+    }
+
+    /// Makes room for a part of the film, and for the joins after it: in the current range for the
+    /// part's packets, and where it then touches another range for the packets of all others. Only the
+    /// room changes.
+    pub fn make_room_to_feed(&mut self, chunk: &Chunk) -> Result<(), NoMemory>
+        requires { HasShape chunk.now }
+        ensures same { IsSameButRoom self.old self.new }
+        ensures ok { OnOk result (HasRoomToFeed chunk.now self.new) }
+        ensures cache { IsCache self.new }
+    {
+        let more = chunk.packets.len() as u64;
+        let upto = Pos {
+            block: chunk.to.pos,
+            lane: 0,
+        };
+        if touches_then(upto, &self.current, self.others.as_slice()) {
+            self.reserve_to_meet(more)
+        } else {
+            reserve_in(&mut self.current, &[], more)
+        }
+    }
+
+    #[tactic(auto, using(crate::proofs::Lists::others_light))]
+    fn reserve_to_meet(&mut self, more: u64) -> Result<(), NoMemory>
+        requires { more < 2 ^ 60 }
+        ensures same { IsSameButRoom self.old self.new }
+        ensures ok { OnOk result ((30 ≤ self.new.join_room) × IfSome self.new.current (λ r. HasRoomFor self.new.others more r)) }
+        ensures within { OnErr result ((30 ≤ self.old.join_room) × IfSome self.old.current (λ r. HasRoomFor self.old.others more r) → ⊥) }
+        ensures cache { IsCache self.new }
+    {
+        self.join_drops.clear();
+        self.join_drops.reserve(30)?;
+        reserve_in(&mut self.current, self.others.as_slice(), more)
+    }
+
     /// Makes a new range of a set the current one, which begins at its starts, and gives what is told
     /// of the range that goes for it where eleven would stand. The one that was current stands in front
     /// of the others then, unless it holds no packet. `NoMemory` comes only without the room that
@@ -354,18 +420,6 @@ impl Cache {
         Ok(Drops::from_vec(drops))
     }
 
-    #[tactic(auto, using(crate::proofs::Lists::others_light))]
-    fn reserve_to_join(&mut self) -> Result<(), NoMemory>
-        ensures same { IsSameButRoom self.old self.new }
-        ensures ok { OnOk result ((30 ≤ self.new.join_room) × IfSome self.new.current (λ r. HasRoomFor self.new.others 0 r)) }
-        ensures within { OnErr result ((30 ≤ self.old.join_room) × IfSome self.old.current (λ r. HasRoomFor self.old.others 0 r) → ⊥) }
-        ensures cache { IsCache self.new }
-    {
-        self.join_drops.clear();
-        self.join_drops.reserve(30)?;
-        reserve_in(&mut self.current, self.others.as_slice(), 0)
-    }
-
     /// Joins the current range with each other one that touches it, in order of last use, as long as
     /// one does. One whose packets differ from the current range's goes instead, and is told of.
     /// `NoMemory` comes only without the room that `make_room_to_start` and `make_room_to_feed` make;
@@ -383,7 +437,7 @@ impl Cache {
                 dropped: Drops::new(self.alloc),
             });
         }
-        self.reserve_to_join()?;
+        self.reserve_to_meet(0)?;
         let mut dropped = replace(&mut self.join_drops, Vec::new(self.alloc));
         dropped.clear();
         let joined = join_others(&mut self.current, &mut self.others, &mut dropped);
@@ -448,6 +502,25 @@ impl Cache {
             from: cut.from,
             to: cut.to,
             cause: Cause::Limit { back, max },
+        })
+    }
+
+    /// What the cache tells of itself: its ranges in order of last use with the times between which
+    /// they serve, the octets ahead of these heads and behind them, and whether the current range begins
+    /// where the film does. Its `time` is none, and `playing` and `ended` are false.
+    pub fn view(&self, heads: &Heads) -> Result<CacheView, NoMemory>
+        ensures value { IfOk result (λ v. v ≡ view_of heads.now self.now) }
+        ensures cache { IsCache self.now }
+    {
+        Ok(CacheView {
+            ranges: show_all(self.alloc, &self.current, self.others.as_slice())?,
+            forward: self.forward(heads),
+            back: self.back(heads),
+            bof: begins_in(&self.current),
+            ending: self.ending(),
+            time: None,
+            playing: false,
+            ended: false,
         })
     }
 }

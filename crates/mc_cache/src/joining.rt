@@ -28,11 +28,13 @@ fn join_one(range: &mut Range, mut other: Range, drops: &mut Vec<Removal>) -> u3
     let _marks = (range.mark(), other.mark());
     match range.join(&mut other) {
         Ok(()) => 1,
-        Err(UnionError::Mismatch {
-            pos,
-            ours,
-            other: theirs,
-        }) => {
+        Err(
+            UnionError::Mismatch {
+                pos,
+                ours,
+                other: theirs,
+            },
+        ) => {
             let cause = Cause::Mismatch {
                 pos,
                 ours,

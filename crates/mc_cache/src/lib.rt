@@ -7,13 +7,18 @@
 
 mod cache;
 mod joining;
+mod law;
 mod listing;
 mod parts;
 mod prepared;
 mod removals;
 mod rooms;
+#[cfg(test)]
+mod tests;
+mod views;
 
 pub use cache::{Cache, Joins};
+pub use law::{chosen_films, fed_films, left_films, started_films, switched_films};
 pub use mc_journal::{Cause, Removal};
 pub use mc_packet::NoMemory;
 pub use removals::Drops;

@@ -3,11 +3,11 @@ ghost use Rattle.std.specs.List.{AllByRecursion};
 ghost use Rattle.mc_journal.specs.declared.record.Cause.TheVariants.{TooMany, TrackChanged};
 ghost use Rattle.mc_journal.specs.Choices.{is_distinct, is_empty};
 ghost use Rattle.mc_range.specs.Range.{IsRange, RangeState};
-ghost use Rattle.mc_range.specs.Cutting.{IsCut};
+ghost use Rattle.mc_range.specs.Cutting.{IsCut, weight_from};
 ghost use Rattle.mc_range.specs.Tracks.{retracked};
-ghost use Rattle.mc_cache.specs.Cache.{IsOther, holds, in_front, weight_of};
+ghost use Rattle.mc_cache.specs.Cache.{IsOther, holds, in_front, weight_in, weight_of};
 ghost use Rattle.mc_cache.specs.Joining.{JoinsFrom};
-ghost use Rattle.mc_cache.specs.Pruning.{CutsRange, ahead_in};
+ghost use Rattle.mc_cache.specs.Pruning.{CutsFront, CutsRange, ahead_in};
 ghost use Rattle.mc_cache.specs.Removals.{removals_lost, removals_of_all};
 ghost use Rattle.mc_cache.specs.Rooms.{HasRoomFor};
 
@@ -118,23 +118,38 @@ fn cut_last(mut last: Range, others: &mut Vec<Range>) -> Option<Cut>
     cut
 }
 
+/// Makes the next drop of a range up to the heads.
+#[tactic(auto, using(crate::proofs::Pruned::ahead_told, crate::proofs::Pruned::cut_weighs))]
+fn cut_range(range: &mut Range, heads: &Heads) -> Option<Cut>
+    requires over { weight_from heads.now range.old.queues < weight_in range.old }
+    ensures value { IsSomeAnd result (λ c. IsCut (Some heads.now) range.old range.new (Some c)) }
+    ensures weight { weight_in range.new ≤ weight_in range.old }
+    ensures range { IsRange range.new }
+{
+    let _mark = range.mark();
+    range.cut(Some(heads))
+}
+
 /// Makes the next drop of the current range.
-#[tactic(auto, using(crate::proofs::Pruned::some_cut_ahead, crate::proofs::Pruned::cut_weighs))]
 fn cut_current(range: &mut Option<Range>, heads: &Heads) -> Option<Cut>
     requires over { ahead_in heads.now range.old < weight_of (in_front range.old []) }
-    ensures value { IsSomeAnd result (λ c. IsSomeAnd range.old (λ r. IsSomeAnd range.new (λ q. IsCut (Some heads.now) r q (Some c)))) }
+    ensures value { IsSomeAnd result (λ c. CutsFront heads.now range.old range.new c) }
     ensures weight { weight_of (in_front range.new []) ≤ weight_of (in_front range.old []) }
     ensures number { length (in_front range.new []) ≤ length (in_front range.old []) }
     ensures range { IfSome range.new IsRange }
 {
     match range {
-        Some(range) => range.cut(Some(heads)),
+        Some(range) => cut_range(range, heads),
         None => None,
     }
 }
 
 /// Makes the next drop of the last other range, else of the current one.
-pub(crate) fn cut_next(range: &mut Option<Range>, others: &mut Vec<Range>, heads: &Heads) -> Option<Cut>
+pub(crate) fn cut_next(
+    range: &mut Option<Range>,
+    others: &mut Vec<Range>,
+    heads: &Heads,
+) -> Option<Cut>
     requires all { AllByRecursion IsOther others.old.items }
     requires over { ahead_in heads.now range.old < weight_of (in_front range.old others.old.items) }
     requires room { length others.old.items ≤ vec_capacity others.old }

@@ -1,4 +1,5 @@
 ghost use Rattle.std.specs.Prelude.{◌≡◌, true, IfNone, IfSome};
+ghost use Rattle.mc_range.specs.Range.{is_same, is_same_set};
 ghost use Rattle.mc_cache.specs.Cache.{IsReadyFor};
 
 use mc_packet::{Choice, Level, Mark, Starts};
@@ -12,6 +13,7 @@ pub(crate) struct Prepared {
 }
 
 fn is_same(a: Option<u64>, b: Option<u64>) -> bool
+    ensures value { result ≡ is_same a b }
     ensures sound { result ≡ true → a ≡ b }
     ensures whole { a ≡ b → result ≡ true }
 {
@@ -22,7 +24,9 @@ fn is_same(a: Option<u64>, b: Option<u64>) -> bool
     }
 }
 
-fn is_same_set(a: Choice, b: Choice) -> bool
+/// Whether two sets are one.
+pub(crate) fn is_same_set(a: Choice, b: Choice) -> bool
+    ensures value { result ≡ is_same_set a b }
     ensures sound { result ≡ true → a ≡ b }
     ensures whole { a ≡ b → result ≡ true }
 {

@@ -70,7 +70,7 @@ loop-other-preserved c =
     let u = i.number in
     record {
       steps = next_join c.args.range.now c.args.others.now.items r rs c.loop-other.joined (c.loop-other.joined + c.join_one-joined.result) c.loop-other.drops.items c.join_one-joined.new.drops.items o c.join_one-joined.new.range j.value.0 left
-        i.steps (sym e) k j.value.2 (ap (λ t. c.loop-other.joined + t) j.value.1);
+          i.steps (sym e) k j.value.2 (ap (λ t. c.loop-other.joined + t) j.value.1);
       all = rw k f.others;
       fits = omega arith;
       space = rw k (j.space (without_first (meets_range r) rs) (moved_room (meets_range r) rs o r 0 e i.space));

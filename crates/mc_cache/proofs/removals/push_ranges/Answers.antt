@@ -13,12 +13,12 @@ loop-range-preserved c =
     let e = ap (λ x. removals_of_all c.args.cause (take i rs) ++ removals_of c.args.cause x) c.range-item.is in
     record {
       told = c.push_all.ensures.items ∙ ap (λ x. x ++ removals_of c.args.cause r) c.loop-range.invariant.told
-        ∙ append_assoc c.args.drops.now.items (removals_of_all c.args.cause (take i rs)) (removals_of c.args.cause r)
-        ∙ ap (λ x. c.args.drops.now.items ++ x) (e ∙ sym n);
+          ∙ append_assoc c.args.drops.now.items (removals_of_all c.args.cause (take i rs)) (removals_of c.args.cause r)
+          ∙ ap (λ x. c.args.drops.now.items ++ x) (e ∙ sym n);
       room =
-        let a = c.push_all.ensures.few in
-        let b = c.push_all.ensures.room in
-        let d = c.loop-range.invariant.room in
-        let t = c.loop-range-test.true in
-        omega arith;
+          let a = c.push_all.ensures.few in
+          let b = c.push_all.ensures.room in
+          let d = c.loop-range.invariant.room in
+          let t = c.loop-range-test.true in
+          omega arith;
     }

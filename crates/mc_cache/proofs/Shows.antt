@@ -1,0 +1,26 @@
+-- What is shown of the ranges, and of where they begin.
+use Rattle.std.proofs.Common.{◌≡◌, ℕ, ◌+◌, ◌*◌, ◌≤◌, ◌==◌, Bool, true, false, List, [], ◌∷◌, ◌++◌, Option, Some, None, refl, arith, inl, inr}
+use Rattle.std.specs.Prelude.{map, nat_le}
+use Rattle.std.proofs.lemmas.Bool.{cases_Bool, leb-true, leb-false, eq-eqb, ne_eqb}
+use Rattle.mc_packet.specs.declared.packet.Pos.{Pos}
+use Rattle.mc_journal.specs.Films.{rank}
+use Rattle.mc_range.specs.Range.{RangeState}
+use Rattle.mc_cache.specs.Cache.{in_front}
+use Rattle.mc_cache.specs.Shown.{shown}
+
+zero_is : rank (record { block = 0; lane = 0 }) ≡ 0
+unfolding rank
+zero_is = refl
+
+pub at_start : (p : Pos) → nat_le (rank p) (rank (record { block = 0; lane = 0 })) ≡ (rank p == 0)
+at_start p = rw zero_is (by_test (rank p))
+  where
+    by_test : (n : ℕ) → nat_le n 0 ≡ (n == 0)
+    by_test n = elim (cases_Bool (nat_le n 0)) [
+      | inl y ↦ let l = leb-true n 0 y in let e = eq-eqb n 0 (omega arith) in rw (y, e) refl
+      | inr m ↦ let l = leb-false n 0 m in let e = ne_eqb n 0 (λ z. absurd (omega arith)) in rw (m, e) refl
+    ]
+
+pub front_shown : (c : Option RangeState) (rs : List RangeState) → map shown (in_front c []) ++ map shown rs ≡ map shown (in_front c rs)
+front_shown None rs = refl
+front_shown (Some r) rs = refl

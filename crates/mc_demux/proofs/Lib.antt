@@ -12,3 +12,6 @@ pub mod Trimmed
 pub mod FilmDrops
 pub mod Droppings
 pub mod Trims
+pub mod Readers
+pub mod Answering
+pub mod Telling

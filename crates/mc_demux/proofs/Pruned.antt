@@ -27,7 +27,7 @@ use Rattle.mc_range.specs.Growing.{IsSound, AllSound}
 use Rattle.mc_range.specs.Cutting.{Cuts, CutsOne, IsCut, bound_under, cut_at, cuttable, first_cuttable, victim, weight_ahead, weight_from}
 use Rattle.mc_range.proofs.Dropping.{is_victim, all_sound}
 use Rattle.mc_cache.specs.Cache.{CacheState, IsCache, IsOther, count_in, count_of, holds, in_front, ranges_of, weight_of, weight_in as weight_in_range}
-use Rattle.mc_cache.specs.Pruning.{CutsLast, CutsRange, Drops}
+use Rattle.mc_cache.specs.Pruning.{CutsFront, CutsLast, CutsRange, Drops}
 
 -- ---- packets behind a place
 
@@ -303,7 +303,7 @@ pub record IsLessCache (set : Choice) (heads : Heads) (old new : CacheState) : T
   pub current : LessCurrent heads old.current new.current
 
 cut_current : (set : Choice) (heads : Heads) (o n : Option RangeState) (c : Cut) → IfSome o IsRange
-    → IsSomeAnd o (λ r. IsSomeAnd n (λ q. IsCut (Some heads) r q (Some c))) → AreLess set (in_front o []) (in_front n []) × LessCurrent heads o n
+    → CutsFront heads o n c → AreLess set (in_front o []) (in_front n []) × LessCurrent heads o n
 cut_current set heads None n c i x = absurd x
 cut_current set heads (Some r) None c i x = absurd x
 cut_current set heads (Some r) (Some q) c i x =

@@ -11,7 +11,7 @@ use Rattle.mc_packet.specs.declared.cache.Limits.{Limits}
 use Rattle.mc_packet.specs.declared.walk.Ending.{Ending}
 use Rattle.mc_packet.specs.declared.walk.Mark.{Mark}
 use Rattle.mc_journal.specs.Films.{rank}
-use Rattle.mc_journal.specs.Choices.{or_else, has}
+use Rattle.mc_journal.specs.Choices.{or_else, has, nothing}
 use Rattle.mc_journal.specs.declared.record.DemuxRecord.{DemuxRecord}
 use Rattle.mc_journal.specs.declared.record.DemuxRecord.TheVariants.{Dropped}
 use Rattle.mc_journal.specs.declared.record.Removal.{Removal}
@@ -20,7 +20,7 @@ use Rattle.mc_queue.specs.Queue.{QueueState}
 use Rattle.mc_range.specs.declared.queues.Queues.{Queues}
 use Rattle.mc_range.specs.Range.{RangeState, own, queue_of}
 use Rattle.mc_range.specs.Cutting.{bound_under, weight_ahead, weight_from}
-use Rattle.mc_cache.specs.Cache.{CacheState, IsCache, ending_in, mark_in, ranges_of, weight_of}
+use Rattle.mc_cache.specs.Cache.{CacheState, IsCache, count_of, ending_in, mark_in, ranges_of, weight_of}
 use Rattle.mc_cache.specs.Pruning.{Drops, Prunes, ahead_in}
 use Rattle.mc_demux.specs.declared.waiting.Target.{Target}
 use Rattle.mc_demux.specs.State.{head_of}
@@ -153,3 +153,15 @@ trimmed by set heads waiting seeking c₀ j₀ _ _ (more c j m c' t i d) =
       grows = ap (λ (xs : List DemuxRecord). xs ++ Dropped by m ∷ []) before.grows ∙ append_assoc j₀ before.drops (Dropped by m ∷ []);
       are = all_more (IsLimitDrop by) before.drops (Dropped by m) before.are (limit_told by heads m c c' d);
     }
+
+-- ---- one drop more
+
+pub trim_more : (by : ℕ) (heads : Heads) (c₀ : CacheState) (j₀ : List DemuxRecord) (c : CacheState) (j : List DemuxRecord) (m : Removal) (c' : CacheState) (j' : List DemuxRecord)
+    → Trims by heads c₀ j₀ c j → IsCache c → Prunes heads (Some m) c c' → j' ≡ j ++ Dropped by m ∷ [] → Trims by heads c₀ j₀ c' j'
+trim_more by heads c₀ j₀ c j m c' j' t i d e = subst (λ (x : List DemuxRecord). Trims by heads c₀ j₀ c' x) (sym e) (more c j m c' t i d)
+
+pub trim_fewer : (heads : Heads) (c : CacheState) (m : Removal) (c' : CacheState) → IsCache c → Prunes heads (Some m) c c' → count_of (ranges_of c') < count_of (ranges_of c)
+trim_fewer heads c m c' i d = (drop_less nothing heads m c c' i d).ranges.fewer
+
+pub trim_none : (by : ℕ) (heads : Heads) (c₀ : CacheState) (j₀ : List DemuxRecord) (c : CacheState) → c ≡ c₀ → Trims by heads c₀ j₀ c j₀
+trim_none by heads c₀ j₀ c e = subst (λ (x : CacheState). Trims by heads c₀ j₀ x j₀) (sym e) none

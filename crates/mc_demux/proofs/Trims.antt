@@ -24,7 +24,7 @@ use Rattle.mc_range.specs.Range.{RangeState, IsRange, as_range}
 use Rattle.mc_range.specs.Serving.{HoldsFilm}
 use Rattle.mc_range.specs.Cutting.{IsCut}
 use Rattle.mc_cache.specs.Cache.{CacheState, IsCache, IsOther, in_front, ranges_of, weight_of}
-use Rattle.mc_cache.specs.Pruning.{CutsRange, Drops, ahead_in, back_of, removal_by}
+use Rattle.mc_cache.specs.Pruning.{CutsFront, CutsRange, Drops, ahead_in, back_of, removal_by}
 use Rattle.mc_demux.specs.declared.waiting.Target.{Target}
 use Rattle.mc_demux.specs.declared.waiting.Switch.{Switch}
 use Rattle.mc_demux.specs.declared.waiting.Failure.{Failure}
@@ -52,7 +52,7 @@ pub record DropIs (ps : List Told) (set : Choice) (heads : Heads) (places : ℕ 
 
 drop_alone : (ps : List Told) (set : Choice) (heads : Heads) (places : ℕ → ℕ) (current current' : Option RangeState) (others' : List RangeState) (c : Cut)
     → IfSome current IsRange → IfSome current (λ r. r.set ≡ set) → IfSome current (HoldsFilm ps) → IfSome current (PlacesAre set heads places)
-    → IsSomeAnd current (λ r. IsSomeAnd current' (λ q. IsCut (Some heads) r q (Some c))) → others' ≡ []
+    → CutsFront heads current current' c → others' ≡ []
     → DropIs ps set heads places c.track (rank c.from) (rank c.to) current [] current' others'
 drop_alone ps set heads places None current' others' c i e all at x n = absurd x
 drop_alone ps set heads places (Some r) None others' c i e all at x n = absurd x

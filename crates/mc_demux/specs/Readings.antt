@@ -1,5 +1,5 @@
 -- What a reader is told, and what is left then.
-use Rattle.std.specs.Prelude.{◌≡◌, ℕ, ◌+◌, ◌≤◌, ◌==◌, nat_le, Bool, true, false, if◌then◌else◌, List, Option, Some, None, Result, Ok, Err}
+use Rattle.std.specs.Prelude.{◌≡◌, ℕ, ◌+◌, ◌^◌, ◌≤◌, ◌<◌, ◌==◌, nat_le, Bool, true, false, if◌then◌else◌, List, [], ◌∷◌, ◌++◌, Option, Some, None, Result, Ok, Err, ⊤}
 use Rattle.mc_packet.specs.declared.packet.Packet.{Packet}
 use Rattle.mc_packet.specs.declared.packet.Pos.{Pos}
 use Rattle.mc_packet.specs.declared.choice.Choice.{Choice}
@@ -21,6 +21,7 @@ use Rattle.mc_demux.specs.declared.waiting.Failure.TheVariants.{Failed, Starved}
 use Rattle.mc_demux.specs.State.{DemuxState, next_in, end_in, forward_of}
 use Rattle.mc_demux.specs.Records.{HasRoom, IsFull, Wrote}
 use Rattle.mc_demux.specs.Keeping.{IsAsBefore}
+use Rattle.mc_demux.specs.Trimming.{Trims}
 
 -- ---- which answer
 
@@ -68,6 +69,11 @@ record_of by track _ = None
 abbrev pub past : Pos → Pos
 past p = if p.lane == 65535 then record { block = p.block + 1; lane = 0 } else record { block = p.block; lane = p.lane + 1 }
 
+-- a packet that is given is not the last one that a place can have
+abbrev pub IsBelow : Reading → Type 0
+IsBelow (Gave p) = rank p.pos + 1 < 2 ^ 80
+IsBelow _ = ⊤
+
 -- the head of the kind under which the set has the track
 abbrev pub with_head : Choice → ℕ → Pos → Heads → Heads
 with_head set track place heads =
@@ -93,6 +99,11 @@ with_track set track marked = record {
 abbrev pub ended_after : ℕ → Reading → DemuxState → Choice
 ended_after track (End ending) d = with_track d.set track d.ended
 ended_after track _ d = d.ended
+
+-- the record stands behind the journal, the heads and the told ends are these, and packets went as the limit asks
+pub record Gives (by : ℕ) (own : DemuxRecord) (heads : Heads) (ended : Choice) (old new : DemuxState) : Type 0 where
+  pub changed : new ≡ record old { cache = new.cache; heads = heads; ended = ended; journal = new.journal; spare = new.spare }
+  pub trims : Trims by heads old.cache (old.journal ++ own ∷ []) new.cache new.journal
 
 -- behind an answer with a record the journal has it, the head is past a packet that was given, an end is remembered, and
 -- packets went as the limit asks; other answers change nothing

@@ -6,6 +6,8 @@ mod demux;
 mod job;
 mod law;
 mod outcomes;
+mod reading;
+mod trim;
 mod waiting;
 
 pub use answer::{DemuxError, Peek, Reading, Selected, Taken};

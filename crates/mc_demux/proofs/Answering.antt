@@ -47,13 +47,13 @@ full_told : (film : Film) (d : DemuxState) (by track : ℕ) (b : Bool) (own : De
     → nat_le d.cache.limits.forward (forward_of d) ≡ b
     → record_of by track (if b then Overfull (forward_of d) d.cache.limits.forward else NotYet) ≡ Some own
     → IsTold film d (heads_after track (if b then Overfull (forward_of d) d.cache.limits.forward else NotYet) d)
-      (ended_after track (if b then Overfull (forward_of d) d.cache.limits.forward else NotYet) d) own
+    (ended_after track (if b then Overfull (forward_of d) d.cache.limits.forward else NotYet) d) own
 full_told film d by track false own s i sel none open_end sound le r = absurd (cc)
 full_told film d by track true own s i sel none open_end sound le r =
     let h = reverse d.journal in
     let over : d.cache.limits.forward ≤ forward_of d = grind (arith, nat_tests) in
     let counts = forward-is film d.cache.limits d.set d.cache.current d.cache.others d.heads d.seeking d.waiting d.switch d.failure d.ended h
-        i.cache.current (own_set d i) (have_heads d.set d.heads d.waiting d.seeking d.cache.current i.placed) s.fits in
+    i.cache.current (own_set d i) (have_heads d.set d.heads d.waiting d.seeking d.cache.current i.placed) s.fits in
     is_own film d d.heads d.ended (OverfullRecord by track (forward_of d) d.cache.limits.forward) own r (record {
       fits = overfull_step film d.cache.limits d.set d.cache.current d.cache.others d.heads d.seeking d.waiting d.switch d.failure d.ended h by track (forward_of d)
           s.fits s.still sel none open_end sound (sym counts) over;
@@ -97,7 +97,7 @@ told_of film d by track own s i r = by_set (has d.set track) refl r
     by_set : (b : Bool) → has d.set track ≡ b
         → record_of by track (if b then reading_by (next_in d.set d.heads track d.cache.current) (end_in track d.cache.current) d.failure (forward_of d) d.cache.limits.forward else Unselected) ≡ Some own
         → IsTold film d (heads_after track (if b then reading_by (next_in d.set d.heads track d.cache.current) (end_in track d.cache.current) d.failure (forward_of d) d.cache.limits.forward else Unselected) d)
-          (ended_after track (if b then reading_by (next_in d.set d.heads track d.cache.current) (end_in track d.cache.current) d.failure (forward_of d) d.cache.limits.forward else Unselected) d) own
+        (ended_after track (if b then reading_by (next_in d.set d.heads track d.cache.current) (end_in track d.cache.current) d.failure (forward_of d) d.cache.limits.forward else Unselected) d) own
     by_set false e x = absurd (unselected by track own x)
     by_set true e x = told_by film d by track (next_in d.set d.heads track d.cache.current) (end_in track d.cache.current) d.failure own s i e refl refl refl x
 
@@ -108,10 +108,10 @@ pub gives_keep : (film : Film) (old new : DemuxState) (by : ℕ) (own : DemuxRec
 gives_keep film old new by own heads ended i p s t g =
     let push : own ∷ reverse old.journal ≡ reverse (old.journal ++ own ∷ []) = sym (reverse-push old.journal own) in
     let all = trims_keep film old.cache.limits old.set heads old.seeking old.waiting old.switch old.failure ended by old.cache (old.journal ++ own ∷ []) new.cache new.journal
-        refl i.sets p (record {
-          fits = subst (λ (h : List DemuxRecord). Fits film old.cache.limits old.set old.cache.current old.cache.others heads old.seeking old.waiting old.switch old.failure ended h) push t.fits;
-          still = subst (λ (h : List DemuxRecord). is_still film.packets h ≡ true) push t.still;
-        }) g.trims in
+    refl i.sets p (record {
+      fits = subst (λ (h : List DemuxRecord). Fits film old.cache.limits old.set old.cache.current old.cache.others heads old.seeking old.waiting old.switch old.failure ended h) push t.fits;
+      still = subst (λ (h : List DemuxRecord). is_still film.packets h ≡ true) push t.still;
+    }) g.trims in
     let lim = (trimmed by old.set heads old.waiting old.seeking old.cache (old.journal ++ own ∷ []) new.cache new.journal g.trims).limits_are in
     subst (λ (d : DemuxState). StandsFor film d) (sym g.changed) (record {
       fits = subst (λ (l : Limits). Fits film l old.set new.cache.current new.cache.others heads old.seeking old.waiting old.switch old.failure ended (reverse new.journal)) (sym lim) all.fits;

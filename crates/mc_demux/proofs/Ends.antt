@@ -135,7 +135,7 @@ stays_done film (Ended by n ending ∷ h) k fi al sel e = elim (cases_Bool (n ==
       let same : n ≡ k = eqb-true n k y in
       let may = al.0 in
       let d = ended_now film.packets film.ending (selected h) (pending h) (λ j. waits j h) (λ j. head film.packets j h) (stand film.packets h).current n ending
-          f.here may.0 may.1 may.2 in
+      f.here may.0 may.1 may.2 in
       subst (λ i. IsDone film.packets i (pending h) (waits i h) (head film.packets i h)) same d
   | inr o ↦ let d = stays_done film h k fi al.1 sel (rw o at e) in record { found = d.found; placed = d.placed; none = d.none }
 ]

@@ -48,8 +48,7 @@ cut_sound hd (Some q) (Some m) c s a x =
     let low = dropping.cut_low hd q s a in
     let high = dropping.cut_high hd q s a in
     let light = less_weight_from (rank (cut_at hd q)) q.packets in
-    let fits = s.fits in
-    (
+    let fits = s.fits in (
       subst (λ (z : QueueState). IsQueue z) (sym x.1.packets_left) (record {
         rise = rise_from q.track (rank q.from) (rank q.to) (rank (cut_at hd q)) q.packets high s.rise;
         fits = omega arith;

@@ -72,8 +72,8 @@ forward_told ps set heads n None all places = forward_none set
 forward_told ps set heads n (Some r) all places =
     same_total set (λ k. sum_by weight (from_told (n k) (held (as_range r) ps k))) (λ k. weights (ahead (queue_of k r.queues) (head_of set heads k)))
     (λ k. ap (λ (qs : List Told). sum_by weight (from_told (n k) qs)) (all k)
-        ∙ ap (λ (qs : List Told). sum_by weight qs) (ahead_told (queue_of k r.queues) (head_of set heads k) (n k) (places k))
-        ∙ weights_told (ahead (queue_of k r.queues) (head_of set heads k)))
+    ∙ ap (λ (qs : List Told). sum_by weight qs) (ahead_told (queue_of k r.queues) (head_of set heads k) (n k) (places k))
+    ∙ weights_told (ahead (queue_of k r.queues) (head_of set heads k)))
 
 pub forward_kinds : (set : Choice) (heads : Heads) (current : Option RangeState) → IfSome current IsRange → IfSome current (λ r. r.set ≡ set)
     → IfSome current (HaveHeads set heads) → total_of set (λ k. weights (ahead_in set heads k current)) ≡ forward_of_kinds heads current

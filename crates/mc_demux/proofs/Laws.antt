@@ -51,11 +51,13 @@ kept-has set test k e = elim (cases_Bool (is_track (kept_track test set.video) k
     | inr na ↦
         let b : is_track (kept_track test set.sub) k ≡ true = rw (nv, na) at e in
         let p = kept_one set.sub test k b in
-        let q = p.0 in
-        (elim (cases_Bool (is_track set.video k)) [
-          | inl y ↦ rw y refl
-          | inr n ↦ elim (cases_Bool (is_track set.audio k)) [ inl z ↦ rw (n, z) refl | inr m ↦ rw (n, m, q) refl ]
-        ], p.1)
+        let q = p.0 in (
+          elim (cases_Bool (is_track set.video k)) [
+            | inl y ↦ rw y refl
+            | inr n ↦ elim (cases_Bool (is_track set.audio k)) [ inl z ↦ rw (n, z) refl | inr m ↦ rw (n, m, q) refl ]
+          ],
+          p.1,
+        )
   ]
 ]
 

@@ -79,16 +79,16 @@ heads_at starts heads = record { video = head_at starts.video heads.video; audio
 
 pub record FoundOn (starts : Starts) (old new : DemuxState) : Type 0 where
   pub changed : new ≡ record old {
-      cache = new.cache;
-      heads = heads_at starts old.heads;
-      seeking = None;
-      waiting = nothing;
-      number = old.number + 1;
-      kept = None;
-      fed = false;
-      journal = new.journal;
-      spare = new.spare
-    }
+    cache = new.cache;
+    heads = heads_at starts old.heads;
+    seeking = None;
+    waiting = nothing;
+    number = old.number + 1;
+    kept = None;
+    fed = false;
+    journal = new.journal;
+    spare = new.spare;
+  }
   pub limits_are : new.cache.limits ≡ old.cache.limits
   pub wrote : WroteAll 5 (Found 5 starts ∷ []) old.journal new.journal
 
@@ -103,26 +103,26 @@ is_at mark (Some m) = m.pos == mark.pos
 
 pub record FedOn (chunk : Chunk) (old new : DemuxState) : Type 0 where
   pub changed : new ≡ record old {
-      cache = new.cache;
-      number = old.number + 1;
-      kept = None;
-      fed = is_at chunk.to (mark_in new.cache.current);
-      journal = new.journal;
-      spare = new.spare
-    }
+    cache = new.cache;
+    number = old.number + 1;
+    kept = None;
+    fed = is_at chunk.to (mark_in new.cache.current);
+    journal = new.journal;
+    spare = new.spare;
+  }
   pub limits_are : new.cache.limits ≡ old.cache.limits
   pub wrote : WroteAll 5 (Fed 5 chunk.from chunk.to (took_in chunk old.cache.current) chunk.ending ∷ []) old.journal new.journal
 
 -- it stands since then that nothing is read on
 abbrev pub failed_on : Failure → DemuxRecord → DemuxState → DemuxState
 failed_on failure own old = record old {
-    failure = Some failure;
-    number = old.number + 1;
-    kept = None;
-    fed = false;
-    journal = old.journal ++ own ∷ [];
-    spare = old.spare - 1
-  }
+  failure = Some failure;
+  number = old.number + 1;
+  kept = None;
+  fed = false;
+  journal = old.journal ++ own ∷ [];
+  spare = old.spare - 1;
+}
 
 abbrev pub Finds : ℕ → Starts → DemuxState → Result Taken DemuxError → DemuxState → Type 0
 Finds n starts old (Ok WasTaken) new = HasRoom old.journal × (n ≡ old.number) × FoundOn starts old new

@@ -43,18 +43,18 @@ heads_after t dir d = heads_or d.heads (heads_in d.set t dir (server d.set t dir
 -- nothing waits, nothing failed, no end was told, and what a job brings under an older number is stale
 pub record SoughtOn (by : ℕ) (t : ℤ) (dir : Dir) (how : How) (old new : DemuxState) : Type 0 where
   pub changed : new ≡ record old {
-      cache = new.cache;
-      heads = heads_after t dir old;
-      seeking = target_after t dir how;
-      waiting = nothing;
-      failure = None;
-      ended = nothing;
-      number = old.number + 1;
-      kept = None;
-      fed = false;
-      journal = new.journal;
-      spare = new.spare
-    }
+    cache = new.cache;
+    heads = heads_after t dir old;
+    seeking = target_after t dir how;
+    waiting = nothing;
+    failure = None;
+    ended = nothing;
+    number = old.number + 1;
+    kept = None;
+    fed = false;
+    journal = new.journal;
+    spare = new.spare;
+  }
   pub limits_are : new.cache.limits ≡ old.cache.limits
   pub wrote : Wrote by (Sought by old.set t dir how) old.journal new.journal
 

@@ -82,18 +82,18 @@ sought_again by set (Some s) = Sought by set s.t s.dir Sent ∷ []
 
 pub record SwitchedTo (by : ℕ) (set : Choice) (at : ℤ) (old new : DemuxState) : Type 0 where
   pub changed : new ≡ record old {
-      cache = new.cache;
-      set = set;
-      waiting = waiting_after old.seeking (added_to set old);
-      switch = record { lead = lead_of set; at = at };
-      failure = None;
-      ended = nothing;
-      number = old.number + 1;
-      kept = None;
-      fed = false;
-      journal = new.journal;
-      spare = new.spare
-    }
+    cache = new.cache;
+    set = set;
+    waiting = waiting_after old.seeking (added_to set old);
+    switch = record { lead = lead_of set; at = at };
+    failure = None;
+    ended = nothing;
+    number = old.number + 1;
+    kept = None;
+    fed = false;
+    journal = new.journal;
+    spare = new.spare;
+  }
   pub limits_are : new.cache.limits ≡ old.cache.limits
   pub wrote : WroteAll by (Switched by set (added_to set old) at ∷ sought_again by set old.seeking) old.journal new.journal
 

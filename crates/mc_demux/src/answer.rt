@@ -5,10 +5,7 @@ use mc_packet::{Ending, NoMemory, Packet, Pos, Why};
 pub enum Taken {
     Taken,
     /// It was brought under the number `asked`, while the demuxer's is `now`: it changed nothing.
-    Stale {
-        asked: u64,
-        now: u64,
-    },
+    Stale { asked: u64, now: u64 },
 }
 
 /// Whether a selection changed anything.
@@ -29,15 +26,9 @@ pub enum Reading {
     End(Ending),
     /// Nothing more is read for now: `forward` octets stand ahead of the readers, and the limit on
     /// them is `max`.
-    Overfull {
-        forward: u64,
-        max: u64,
-    },
+    Overfull { forward: u64, max: u64 },
     /// A read of the file failed, with the shelf's count of faults before and after.
-    Fault {
-        before: u64,
-        after: u64,
-    },
+    Fault { before: u64, after: u64 },
     /// Memory was wanting to read on.
     Wanting,
     /// The track is not selected.

@@ -18,10 +18,7 @@ pub struct Switch {
 #[derive(Clone, Copy, Debug, PartialEq, Eq)]
 pub enum Failure {
     /// A read of the file failed, with the shelf's count of faults before and after.
-    Failed {
-        before: u64,
-        after: u64,
-    },
+    Failed { before: u64, after: u64 },
     /// Memory was wanting.
     Starved,
 }

@@ -2,12 +2,15 @@
 use Rattle.std.specs.Prelude.{◌≡◌, ◌≤◌, ◌<◌, ℕ, ◌+◌, ◌^◌, nat_lt, Bool, true, List, [], ◌∷◌, length, map, Option, Some, None, option_map, if◌then◌else◌, IfSome, IsSomeAnd}
 use Rattle.std.specs.List.{AllByRecursion}
 use Rattle.mc_packet.specs.declared.cache.Limits.{Limits}
+use Rattle.mc_packet.specs.declared.packet.Packet.{Packet}
+use Rattle.mc_packet.specs.declared.packet.Pos.{Pos}
+use Rattle.mc_range.specs.Serving.{first_from}
 use Rattle.mc_packet.specs.declared.choice.Choice.{Choice}
 use Rattle.mc_packet.specs.declared.choice.Starts.{Starts}
 use Rattle.mc_packet.specs.declared.walk.Ending.{Ending}
 use Rattle.mc_packet.specs.declared.walk.Mark.{Mark}
 use Rattle.mc_journal.specs.Stands.{Stand}
-use Rattle.mc_range.specs.Range.{RangeState, IsBegun, IsRange, as_range, weight_of_all}
+use Rattle.mc_range.specs.Range.{RangeState, IsBegun, IsRange, as_range, queue_of, weight_of_all}
 use Rattle.mc_range.specs.Tracks.{count_of_all}
 use Rattle.mc_cache.specs.declared.prepared.Prepared.{Prepared}
 
@@ -120,3 +123,8 @@ ending_in (Some r) = r.ending
 
 abbrev pub stand_of : CacheState → Stand
 stand_of st = record { current = option_map as_range st.current; others = map as_range st.others }
+
+-- the first packet of a track in the current range at a place or behind it
+abbrev pub first_in : ℕ → Pos → Option RangeState → Option Packet
+first_in track place None = None
+first_in track place (Some r) = first_from place (queue_of track r.queues)

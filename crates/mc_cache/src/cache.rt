@@ -1,10 +1,12 @@
 ghost use Rattle.std.specs.Prelude.{◌≡◌, ◌≤◌, ◌<◌, ◌+◌, ◌^◌, true, [], Some, None, length, IfOk, IfSome, IsSomeAnd, find, OnErr, OnOk, OnSome, IfNone};
+ghost use Rattle.std.specs.Option.{option_copied};
 ghost use Rattle.mc_packet.specs.Shape.{HasShape};
 ghost use Rattle.mc_journal.specs.Choices.{is_distinct};
+ghost use Rattle.mc_journal.specs.Films.{rank};
 ghost use Rattle.mc_queue.specs.Places.{weights};
 ghost use Rattle.mc_range.specs.Range.{AtMark, IsBegun, IsRange};
 ghost use Rattle.mc_range.specs.Growing.{IsFed, lacks_room, taker};
-ghost use Rattle.mc_cache.specs.Cache.{IsCache, count_of, ending_in, in_front, mark_in, ranges_of, weight_in, weight_of, with_current, with_others, with_prepared, without_first, Fewer};
+ghost use Rattle.mc_cache.specs.Cache.{IsCache, count_of, ending_in, first_in, in_front, mark_in, ranges_of, weight_in, weight_of, with_current, with_others, with_prepared, without_first, Fewer};
 ghost use Rattle.std.specs.Prelude.{drop};
 ghost use Rattle.mc_journal.specs.declared.record.Cause.TheVariants.{TooMany};
 ghost use Rattle.mc_cache.specs.Joining.{IsJoinedUp};
@@ -24,7 +26,7 @@ use crate::rooms::{make_ready, reserve_in, touches_any, touches_then};
 use crate::views::{begins_in, show_all};
 use mc_journal::{Cause, Removal};
 use mc_packet::{
-    CacheView, Choice, Chunk, Dir, Ending, Heads, Kind, Limits, Mark, NoMemory, Pos, Starts,
+    CacheView, Choice, Chunk, Dir, Ending, Heads, Kind, Limits, Mark, NoMemory, Packet, Pos, Starts,
     TrackNo,
 };
 use mc_range::Range;
@@ -441,6 +443,17 @@ impl Cache {
         let joined = join_others(&mut self.current, &mut self.others, &mut dropped);
         let dropped = Drops::from_vec(dropped);
         Ok(Joins { joined, dropped })
+    }
+
+    /// The first packet of a track in the current range at a place or behind it, if there is one.
+    pub fn first_at(&self, track: TrackNo, place: Pos) -> Option<&Packet>
+        ensures value { option_copied result ≡ first_in track place self.now.current }
+        ensures below { IfSome (option_copied result) (λ p. rank p.pos + 1 < 2 ^ 80) }
+    {
+        match &self.current {
+            Some(range) => range.first_at(track, place),
+            None => None,
+        }
     }
 
     /// Octets of the current range's packets at the heads or behind them.

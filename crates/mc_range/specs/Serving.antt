@@ -87,3 +87,8 @@ pub record AreHeads (set : Choice) (place : ℕ → ℕ) (h : Heads) : Type 0 wh
 abbrev pub at_place : List Packet → Option Pos → Option Packet
 at_place ps None = None
 at_place ps (Some p) = find (is_from (rank p)) ps
+
+-- the first packet of a queue, if there is one, at a place or behind it
+abbrev pub first_from : Pos → Option QueueState → Option Packet
+first_from place None = None
+first_from place (Some q) = find (is_from (rank place)) q.packets

@@ -2,10 +2,13 @@ ghost use Rattle.std.specs.Prelude.{◌≡◌, Some, None, nat_lt, if◌then◌e
 ghost use Rattle.mc_journal.specs.Choices.{is_distinct, or_else};
 ghost use Rattle.mc_range.specs.Range.{AtMark, IsBegun, IsRange, IsRoomier, count, is_same, is_same_set, meets_range, queue_of, weight_of_all};
 ghost use Rattle.mc_range.specs.Growing.{IsFed, lacks_room, taker};
-ghost use Rattle.mc_range.specs.Serving.{heads_of};
+ghost use Rattle.mc_range.specs.Serving.{first_from, heads_of};
 ghost use Rattle.mc_range.specs.Cutting.{IsCut, weight_from};
 ghost use Rattle.mc_range.specs.Bounds.{bounds_of};
 ghost use Rattle.std.specs.Option.{option_copied};
+ghost use Rattle.std.specs.List.{find};
+ghost use Rattle.mc_journal.specs.Films.{rank};
+ghost use Rattle.mc_queue.specs.Places.{is_from};
 ghost use Rattle.mc_range.specs.Joining.{IsJoined, JoinRefused, greater};
 ghost use Rattle.mc_range.specs.Tracks.{IsAdded, count_of_all, intervals, queue_under, retracked, selected_under};
 ghost use Rattle.mc_packet.specs.Shape.{HasShape};
@@ -19,8 +22,10 @@ use crate::place::place_at;
 use crate::queues::{Queues, find, reserve, start_queue, weight_of_all};
 use crate::serving::serve;
 use crate::tracks::{count_of_all, intervals, keep_queues, put_queue, spans_touch};
-use mc_packet::{Choice, Chunk, Dir, Ending, Heads, Kind, Mark, NoMemory, Spans, Starts, TrackNo};
-use mc_queue::UnionError;
+use mc_packet::{
+    Choice, Chunk, Dir, Ending, Heads, Kind, Mark, NoMemory, Packet, Pos, Spans, Starts, TrackNo,
+};
+use mc_queue::{Queue, UnionError};
 use std::alloc::Global;
 use std::marker::Model;
 
@@ -101,6 +106,17 @@ impl Range {
         match find(&self.queues, track) {
             Some(queue) => queue.len(),
             None => 0,
+        }
+    }
+
+    /// The first packet of a track at a place or behind it, if its queue has one.
+    pub fn first_at(&self, track: TrackNo, place: Pos) -> Option<&Packet>
+        ensures value { option_copied result ≡ first_from place (queue_of track self.now.queues) }
+        ensures below { IfSome (option_copied result) (λ p. rank p.pos + 1 < 2 ^ 80) }
+    {
+        match find(&self.queues, track) {
+            Some(queue) => first_behind(queue, place),
+            None => None,
         }
     }
 
@@ -280,6 +296,15 @@ impl Range {
         self.ending = ending;
         Ok(())
     }
+}
+
+/// The first packet at a place or behind it, which is before the end of its queue.
+fn first_behind(queue: &Queue, place: Pos) -> Option<&Packet>
+    ensures value { option_copied result ≡ find (is_from (rank place)) queue.now.packets }
+    ensures below { IfSome (option_copied result) (λ p. rank p.pos + 1 < 2 ^ 80) }
+{
+    let _end = queue.to();
+    queue.first_at(place)
 }
 
 fn is_same(a: Option<TrackNo>, b: Option<TrackNo>) -> bool

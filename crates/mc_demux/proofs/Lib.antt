@@ -1,0 +1,17 @@
+pub mod Nexts
+pub mod Quiet
+pub mod Giving
+pub mod Failing
+pub mod Ends
+pub mod Forward
+pub mod Resting
+pub mod Laws
+pub mod ByKind
+pub mod Pruned
+pub mod Trimmed
+pub mod FilmDrops
+pub mod Droppings
+pub mod Trims
+pub mod Readers
+pub mod Answering
+pub mod Telling

@@ -1,0 +1,12 @@
+use Rattle.std.proofs.Common.{◌≡◌, true, is_some, rules, subst}
+use Rattle.mc_demux.specs.declared.waiting.Failure.TheVariants.{Failed}
+use Rattle.mc_demux.specs.State.{DemuxState}
+use Rattle.mc_demux.specs.Demuxers.{IsDemux}
+use Rattle.mc_demux.proofs.Failing.{stop_keeps}
+use Rattle.mc_demux.proofs.demux.Demux.failed.Goals as goal
+
+pub returns-clause-film : goal.returns-clause-film
+returns-clause-film c = λ film s.
+    let d : IsDemux c.args.self.now = subst (λ (x : DemuxState). IsDemux x) c.self.view_is c.self.invariant in
+    let some : is_some c.args.self.now.kept ≡ true = search rules in
+    stop_keeps film c.args.self.now c.stop.new.self (Failed c.args.before c.args.after) d.kept some c.stop.ensures.value s

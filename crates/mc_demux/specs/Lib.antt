@@ -1,0 +1,17 @@
+-- Each call of a demuxer has a clause `value`, by the definition here that bears its name (`Seeks`, `Selects`, `Asks`,
+-- `Finds`, `Feeds`, `Fails`, `Reads`), which fixes its answer and all that it leaves; a clause `demux`, that it leaves a
+-- demuxer (`IsDemux`); and a clause `film`: whatever film the demuxer stands for (`StandsFor`), it stands for it afterwards,
+-- where what it was handed is of that film (`AreStartsOf`, `IsPartOf`). What an outcome has to be is `BringsStarts`,
+-- `BringsPart` and `BringsFailure`.
+pub mod State
+pub mod Jobs
+pub mod Demuxers
+pub mod Keeping
+pub mod Records
+pub mod Trimming
+pub mod Readings
+pub mod Seeking
+pub mod Selecting
+pub mod Outcomes
+pub mod Asking
+pub mod Film

@@ -1,0 +1,17 @@
+//! A demuxer over a seekable cache.
+#![tactic(auto)]
+
+mod answer;
+mod demux;
+mod job;
+mod law;
+mod outcomes;
+mod reading;
+mod trim;
+mod waiting;
+
+pub use answer::{DemuxError, Peek, Reading, Selected, Taken};
+pub use demux::{Demux, DemuxJournal};
+pub use job::Job;
+pub use law::{resting_readers, standing_journals};
+pub use waiting::{Failure, Switch, Target};

@@ -26,8 +26,8 @@ use crate::rooms::{make_ready, reserve_in, touches_any, touches_then};
 use crate::views::{begins_in, show_all};
 use mc_journal::{Cause, Removal};
 use mc_packet::{
-    CacheView, Choice, Chunk, Dir, Ending, Heads, Kind, Limits, Mark, NoMemory, Packet, Pos, Starts,
-    TrackNo,
+    CacheView, Choice, Chunk, Dir, Ending, Heads, Kind, Limits, Mark, NoMemory, Packet, Pos,
+    Starts, TrackNo,
 };
 use mc_range::Range;
 use std::alloc::Global;

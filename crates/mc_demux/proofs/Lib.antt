@@ -15,3 +15,6 @@ pub mod Trims
 pub mod Readers
 pub mod Answering
 pub mod Telling
+pub mod Nearness
+pub mod Jobs
+pub mod Seeking

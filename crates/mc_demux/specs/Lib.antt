@@ -14,4 +14,5 @@ pub mod Seeking
 pub mod Selecting
 pub mod Outcomes
 pub mod Asking
+pub mod Wanting
 pub mod Film

@@ -2,6 +2,7 @@
 #![tactic(auto)]
 
 mod answer;
+mod asking;
 mod demux;
 mod job;
 mod law;
@@ -9,6 +10,7 @@ mod outcomes;
 mod reading;
 mod trim;
 mod waiting;
+mod wanting;
 
 pub use answer::{DemuxError, Peek, Reading, Selected, Taken};
 pub use demux::{Demux, DemuxJournal};

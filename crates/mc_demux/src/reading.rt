@@ -18,7 +18,7 @@ use mc_journal::{DemuxRecord, gave};
 use mc_packet::{Choice, Ending, Heads, NoMemory, Packet, Pos, TrackNo};
 
 /// As many records as a journal has where it is full.
-const FULL: usize = 16_000_000;
+pub(crate) const FULL: usize = 16_000_000;
 
 fn is_track(selected: Option<TrackNo>, track: TrackNo) -> bool
     ensures { result ≡ is_track selected track }
@@ -35,7 +35,7 @@ fn has(set: Choice, track: TrackNo) -> bool
     is_track(set.video, track) || is_track(set.audio, track) || is_track(set.sub, track)
 }
 
-fn head_of(set: Choice, heads: &Heads, track: TrackNo) -> Option<Pos>
+pub(crate) fn head_of(set: Choice, heads: &Heads, track: TrackNo) -> Option<Pos>
     ensures { result ≡ head_of set heads.now track }
 {
     if is_track(set.video, track) {
@@ -148,7 +148,7 @@ fn waiting_for(failure: Option<Failure>, forward: u64, max: u64) -> Reading
 
 /// The place just behind a packet's.
 #[tactic(auto, unfolding(mc_journal::specs::Films::rank))]
-fn past(pos: Pos) -> Pos
+pub(crate) fn past(pos: Pos) -> Pos
     requires { rank pos + 1 < 2 ^ 80 }
     ensures { result ≡ past pos }
 {

@@ -16,3 +16,5 @@ pub mod Outcomes
 pub mod Asking
 pub mod Wanting
 pub mod Film
+pub mod Opening
+pub mod Viewing

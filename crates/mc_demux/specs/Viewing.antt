@@ -1,5 +1,5 @@
 -- What is told of a demuxer.
-use Rattle.std.specs.Prelude.{◌≡◌, ℕ, ◌+◌, ◌*◌, Bool, ◌&&◌, not, if◌then◌else◌, List, [], ◌∷◌, ◌++◌, length, reverse, Option, is_some, Result, Ok, Err, ⊥}
+use Rattle.std.specs.Prelude.{◌≡◌, ℕ, ◌+◌, ◌*◌, Bool, ◌&&◌, not, if◌then◌else◌, List, [], ◌∷◌, ◌++◌, length, reverse, Option, is_some, Result, Ok, Err}
 use Rattle.mc_packet.specs.declared.cache.CacheView.{CacheView}
 use Rattle.mc_packet.specs.declared.cache.Status.{Status}
 use Rattle.mc_journal.specs.declared.record.DemuxRecord.TheVariants.{Shown}

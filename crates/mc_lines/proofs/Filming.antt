@@ -1,0 +1,25 @@
+-- What is known of a moment, by the readings of the film that the demuxer stands for.
+use Rattle.std.proofs.Common.{◌≡◌, ℕ, Bool, List, subst}
+use Rattle.std.specs.Prelude.{Result}
+use Rattle.mc_packet.specs.declared.choice.Choice.{Choice}
+use Rattle.mc_journal.specs.declared.record.DemuxRecord.{DemuxRecord}
+use Rattle.mc_demux.specs.declared.answer.DemuxError.{DemuxError}
+use Rattle.mc_demux.specs.declared.answer.Reading.{Reading}
+use Rattle.mc_script.specs.Plays.{Readings}
+use Rattle.mc_lines.specs.declared.halt.Halt.{Halt}
+use Rattle.mc_lines.specs.declared.next.Next.{Next}
+use Rattle.mc_lines.specs.Calls.{Ahead, Reads, at}
+use Rattle.mc_lines.specs.Lines.{Turns}
+use Rattle.mc_lines.specs.Nexts.{IsNextBy}
+
+pub turns_on : (rd : Readings) (w : Ahead) (before after : ℕ) (old new : List DemuxRecord) (r : Result Bool Halt) → w ≡ at rd old → Turns w before after old new r → Turns (at rd old) before after old new r
+turns_on rd w before after old new r e h = subst (λ (x : Ahead). Turns x before after old new r) e h
+
+pub next_on : (rd : Readings) (w : Ahead) (h : List DemuxRecord) (left : Choice) (n : Next) → w ≡ at rd h → IsNextBy w left n → IsNextBy (at rd h) left n
+next_on rd w h left n e is = subst (λ (x : Ahead). IsNextBy x left n) e is
+
+pub read_on : (rd : Readings) (w w' : Ahead) (by n k : ℕ) (old new : List DemuxRecord) (r : Result Reading DemuxError) → w ≡ at rd old → w' ≡ at rd new → by ≡ n → Reads w w' by k old new r
+    → Reads (at rd old) (at rd new) n k old new r
+read_on rd w w' by n k old new r e f b h =
+    subst (λ (m : ℕ). Reads (at rd old) (at rd new) m k old new r) b
+    (subst (λ (x : Ahead). Reads (at rd old) x by k old new r) f (subst (λ (x : Ahead). Reads x w' by k old new r) e h))

@@ -1,0 +1,11 @@
+-- How a line's calls make up what it leaves.
+pub mod Counts
+pub mod Parts
+pub mod Growing
+pub mod Drivers
+pub mod Filming
+pub mod Turning
+pub mod Asking
+pub mod Choosing
+pub mod Drained
+pub mod Playing

@@ -1,0 +1,81 @@
+use mc_demux::{DemuxError, Job, Peek, Reading, Selected, Taken};
+use mc_journal::Sought;
+use mc_outside::Shelf;
+use mc_packet::{CacheView, Choice, Dir, TrackNo};
+
+/// A demuxer with what it takes to do its jobs, by what its calls answer and add to its journal.
+pub trait Machine {
+    ghost use Rattle.std.specs.Prelude.{◌≡◌, ℕ, ◌≤◌, List, Some, true};
+    ghost use Rattle.mc_outside.specs.Shelf.{content};
+    ghost use Rattle.mc_journal.specs.declared.record.DemuxRecord.{DemuxRecord};
+    ghost use Rattle.mc_script.specs.Plays.{Readings};
+    ghost use Rattle.mc_lines.specs.Calls.{Ahead, AtRest, Bears, Brings, Jobs, Peeks, Reads, Seeks, Selects, Shows, Takes, at};
+
+    ghost journal: { Self → List DemuxRecord };
+
+    /// The number of the next job, and the job whose outcome is awaited.
+    ghost jobs: { Self → Jobs };
+
+    /// What the next calls would answer.
+    ghost ahead: { Self → Ahead };
+
+    /// The number of the film's file on a shelf.
+    ghost file: { Self → ℕ };
+
+    /// It stands for the film of these octets, of which these readings are.
+    ghost stands: { Self → List ℕ → Readings → Type 0 };
+
+    fn seek(&mut self, by: u32, t: i64, dir: Dir) -> Result<Sought, DemuxError>
+        ensures seeks { Seeks (ahead self.old) by t dir (journal self.old) (journal self.new) (jobs self.old) (jobs self.new) result }
+        ensures stands { (octets : List ℕ) (rd : Readings) → stands self.old octets rd → stands self.new octets rd }
+        ensures file { file self.new ≡ file self.old };
+
+    fn select(&mut self, by: u32, set: &[TrackNo], at: i64) -> Result<Selected, DemuxError>
+        ensures selects { Selects (ahead self.old) by set.now at (journal self.old) (journal self.new) (jobs self.old) (jobs self.new) result }
+        ensures stands { (octets : List ℕ) (rd : Readings) → stands self.old octets rd → stands self.new octets rd }
+        ensures file { file self.new ≡ file self.old };
+
+    fn show(&mut self, by: u32) -> Result<CacheView, DemuxError>
+        ensures shows { Shows by (journal self.old) (journal self.new) (jobs self.old) (jobs self.new) result }
+        ensures stands { (octets : List ℕ) (rd : Readings) → stands self.old octets rd → stands self.new octets rd }
+        ensures file { file self.new ≡ file self.old };
+
+    fn next_job(&mut self) -> Result<Job, DemuxError>
+        ensures takes { Takes (ahead self.old) (journal self.old) (journal self.new) (jobs self.old) (jobs self.new) result }
+        ensures stands { (octets : List ℕ) (rd : Readings) → stands self.old octets rd → stands self.new octets rd }
+        ensures file { file self.new ≡ file self.old };
+
+    /// Does a job that was taken, on the shelf that holds the film's file, and brings its outcome.
+    fn bring<S: Shelf>(&mut self, shelf: &mut S, job: Job) -> Result<Taken, DemuxError>
+        requires bears { Bears job (jobs self.old) }
+        ensures brings { Brings job (S.faults shelf.old) (S.faults shelf.new) (journal self.old) (journal self.new) (jobs self.old) (jobs self.new) result }
+        ensures stands { (octets : List ℕ) (rd : Readings) → content (S.files shelf.old) (S.opened shelf.old) (file self.old) ≡ Some octets → stands self.old octets rd → stands self.new octets rd }
+        ensures file { file self.new ≡ file self.old }
+        ensures files { S.files shelf.new ≡ S.files shelf.old }
+        ensures opened { S.opened shelf.new ≡ S.opened shelf.old }
+        ensures later { S.faults shelf.old ≤ S.faults shelf.new };
+
+    fn read(&mut self, by: u32, track: TrackNo) -> Result<Reading, DemuxError>
+        ensures reads { Reads (ahead self.old) (ahead self.new) by track (journal self.old) (journal self.new) result }
+        ensures jobs { jobs self.new ≡ jobs self.old }
+        ensures stands { (octets : List ℕ) (rd : Readings) → stands self.old octets rd → stands self.new octets rd }
+        ensures file { file self.new ≡ file self.old };
+
+    /// What a read of the track would answer.
+    fn peek(&self, track: TrackNo) -> Peek
+        ensures { Peeks (ahead self.now) track result };
+
+    /// The selected tracks.
+    fn selection(&self) -> Choice
+        ensures { result ≡ (ahead self.now).set };
+
+    /// The reader's time in nanoseconds, or 0.
+    fn time(&self) -> i64
+        ensures { result ≡ (ahead self.now).time };
+
+    /// On its film the next calls answer what the journal says.
+    ghost shows_film: { (m : Self) (octets : List ℕ) (rd : Readings) → stands m octets rd → ahead m ≡ at rd (journal m) };
+
+    /// Where nothing is to be done, all that is cached can be read to the end.
+    ghost rests: { (m : Self) (octets : List ℕ) (rd : Readings) → stands m octets rd → (ahead m).idle ≡ true → AtRest rd (journal m) };
+}

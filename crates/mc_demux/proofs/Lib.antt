@@ -18,3 +18,7 @@ pub mod Telling
 pub mod Nearness
 pub mod Jobs
 pub mod Seeking
+pub mod Twins
+pub mod Known
+pub mod Kept
+pub mod Lost

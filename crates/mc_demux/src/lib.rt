@@ -3,11 +3,13 @@
 
 mod answer;
 mod asking;
+mod choosing;
 mod demux;
 mod job;
 mod law;
 mod outcomes;
 mod reading;
+mod selecting;
 mod trim;
 mod waiting;
 mod wanting;

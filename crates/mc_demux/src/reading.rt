@@ -29,7 +29,7 @@ fn is_track(selected: Option<TrackNo>, track: TrackNo) -> bool
     }
 }
 
-fn has(set: Choice, track: TrackNo) -> bool
+pub(crate) fn has(set: Choice, track: TrackNo) -> bool
     ensures { result ≡ has set track }
 {
     is_track(set.video, track) || is_track(set.audio, track) || is_track(set.sub, track)

@@ -18,3 +18,6 @@ pub mod Telling
 pub mod Nearness
 pub mod Jobs
 pub mod Seeking
+pub mod Sought
+pub mod Places
+pub mod Turned

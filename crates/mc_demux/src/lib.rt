@@ -8,6 +8,7 @@ mod job;
 mod law;
 mod outcomes;
 mod reading;
+mod seek;
 mod trim;
 mod waiting;
 mod wanting;

@@ -22,3 +22,6 @@ pub mod Twins
 pub mod Known
 pub mod Kept
 pub mod Lost
+pub mod Sought
+pub mod Places
+pub mod Turned

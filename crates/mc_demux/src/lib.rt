@@ -10,6 +10,7 @@ mod law;
 mod outcomes;
 mod reading;
 mod selecting;
+mod seek;
 mod trim;
 mod waiting;
 mod wanting;

@@ -252,7 +252,7 @@ impl Demux {
     }
 
     /// Makes room in the journal for a record, for a drop of each packet and for two records more.
-    fn make_room(&mut self) -> Result<(), NoMemory>
+    pub(crate) fn make_room(&mut self) -> Result<(), NoMemory>
         ensures same { IsRoomy self.old self.new }
         ensures ok { OnOk result (count_of (ranges_of self.new.cache) + 3 ≤ self.new.spare) }
         ensures demux { IsDemux self.new }

@@ -8,6 +8,7 @@ mod job;
 mod law;
 mod outcomes;
 mod reading;
+mod rooms;
 mod trim;
 mod waiting;
 mod wanting;

@@ -11,6 +11,7 @@ mod outcomes;
 mod reading;
 mod selecting;
 mod seek;
+mod rooms;
 mod trim;
 mod waiting;
 mod wanting;

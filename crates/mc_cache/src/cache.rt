@@ -272,6 +272,18 @@ impl Cache {
         count_in(&self.current) + count_all(self.others.as_slice())
     }
 
+    /// The number of its ranges, the current one too. It takes no memory.
+    pub fn len(&self) -> usize
+        ensures value { result ≡ length (ranges_of self.now) }
+        ensures few { result ≤ 10 }
+        ensures cache { IsCache self.now }
+    {
+        match &self.current {
+            Some(_) => 1 + self.others.len(),
+            None => self.others.len(),
+        }
+    }
+
     // ---- starts
 
     #[tactic(auto, using(crate::proofs::Lists::others_few))]

@@ -158,7 +158,7 @@ added_no true true w e h = e
 added_no false b w e h = absurd (cc)
 added_no true false w e h = absurd (cc)
 
-both_true : (a b : Bool) → (a && b) ≡ true → (a ≡ true) × (b ≡ true)
+pub both_true : (a b : Bool) → (a && b) ≡ true → (a ≡ true) × (b ≡ true)
 both_true a b e = let p = and_parts a b e in (p.0, p.1)
 
 kept_placed : (old : DemuxState) (set : Choice) (r : RangeState) → IsRange r → r.set ≡ old.set → same_kinds old.set set ≡ true

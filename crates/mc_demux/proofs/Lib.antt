@@ -25,3 +25,6 @@ pub mod Lost
 pub mod Sought
 pub mod Places
 pub mod Turned
+pub mod Switched
+pub mod Switching
+pub mod Reselected

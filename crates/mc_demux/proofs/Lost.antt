@@ -14,7 +14,7 @@ use Rattle.mc_journal.specs.declared.record.Cause.TheVariants.{TrackChanged}
 use Rattle.mc_journal.specs.declared.record.DemuxRecord.{DemuxRecord}
 use Rattle.mc_journal.specs.declared.record.DemuxRecord.TheVariants.{Switched}
 use Rattle.mc_journal.specs.declared.record.Removal.{Removal}
-use Rattle.mc_journal.specs.Choices.{is_empty, is_known, is_track, lead_of, nothing}
+use Rattle.mc_journal.specs.Choices.{is_empty, is_known, is_track, lead_of}
 use Rattle.mc_queue.specs.Queue.{QueueState}
 use Rattle.mc_range.specs.declared.queues.Queues.{Queues}
 use Rattle.mc_range.specs.Range.{RangeState, IsRange, count}
@@ -154,7 +154,17 @@ grows_by xs ys drops j r e =
 light : (old left new : ℕ) (limits before : Limits) → limits ≡ before → new ≤ left → left ≤ old → old ≤ before.forward + before.back + heaviest → new ≤ limits.forward + limits.back + heaviest
 light old left new limits before e a b h = subst (λ (l : Limits). new ≤ l.forward + l.back + heaviest) (sym e) (omega arith)
 
-pub switched_is : (old : DemuxState) (by : ℕ) (set : Choice) (at : ℤ) (drops : List Removal) (left c : CacheState) (j : List DemuxRecord) (spare : ℕ)
+pub left_sets : (set : Choice) (drops : List Removal) (old left : CacheState) → IsRetracked set drops old left → AllByRecursion (λ r. r.set ≡ set) (ranges_of left)
+left_sets set drops old left r =
+    no_more (λ x. x.set ≡ set) (ranges_of left) (if is_empty set then None else option_map (retracked set) old.current) (left_is set drops old left r) (set_is set (is_empty set) old.current)
+
+pub left_placed : (old : DemuxState) (set : Choice) (drops : List Removal) (left : CacheState) → IsDemux old → same_kinds old.set set ≡ true → IsRetracked set drops old.cache left
+    → IsPlaced set old.heads (waiting_after old.seeking (added_to set old)) old.seeking left.current
+left_placed old set drops left i kinds r =
+    subst (λ (o : Option RangeState). IsPlaced set old.heads (waiting_after old.seeking (added_to set old)) old.seeking o) (sym r.current_is)
+    (still_placed old set old.seeking old.cache.current i.cache.current (own_set old i) kinds i.placed)
+
+pub switched_is : (old : DemuxState) (by : ℕ) (set : Choice) (at : ℤ) (drops : List Removal) (left c : CacheState) (j : List DemuxRecord) (ended : Choice) (spare : ℕ)
     → IsDemux old → is_known (knows old.list) set ≡ true → IsRetracked set drops old.cache left
     → Trims by old.heads left (old.journal ++ (own_records by set at old ++ told_drops by drops)) c j → IsCache c → back_of old.heads c ≤ c.limits.back
     → IsDemux (record old {
@@ -163,21 +173,19 @@ pub switched_is : (old : DemuxState) (by : ℕ) (set : Choice) (at : ℤ) (drops
       waiting = waiting_after old.seeking (added_to set old);
       switch = record { lead = lead_of set; at = at };
       failure = None;
-      ended = nothing;
+      ended = ended;
       number = old.number + 1;
       kept = None;
       fed = false;
       journal = j;
       spare = spare;
     })
-switched_is old by set at drops left c j spare i k r t ic w =
+switched_is old by set at drops left c j ended spare i k r t ic w =
     let waits = waiting_after old.seeking (added_to set old) in
     let d = trimmed by set old.heads waits old.seeking left (old.journal ++ (own_records by set at old ++ told_drops by drops)) c j t in
     let kinds = known_same old.list old.set set i.known k in
     let lim : c.limits ≡ old.cache.limits = d.limits_are ∙ r.rest.limits_is in
-    let placed : IsPlaced set old.heads waits old.seeking left.current =
-    subst (λ (o : Option RangeState). IsPlaced set old.heads waits old.seeking o) (sym r.current_is)
-    (still_placed old set old.seeking old.cache.current i.cache.current (own_set old i) kinds i.placed) in
+    let placed = left_placed old set drops left i kinds r in
     let n = grows_by old.journal (sought_again by set old.seeking ++ told_drops by drops) d.drops j _ d.grows in
     let m = i.numbered in
     record {
@@ -185,8 +193,7 @@ switched_is old by set at drops left c j spare i k r t ic w =
       limits = subst (λ (l : Limits). AreLimits l) (sym lim) i.limits;
       distinct = known_distinct old.list set k;
       known = k;
-      sets = d.sets (no_more (λ x. x.set ≡ set) (ranges_of left) (if is_empty set then None else option_map (retracked set) old.cache.current) (left_is set drops old.cache left r)
-          (set_is set (is_empty set) old.cache.current));
+      sets = d.sets (left_sets set drops old.cache left r);
       placed = d.placed placed;
       numbered = omega arith;
       kept = tt;
@@ -196,7 +203,7 @@ switched_is old by set at drops left c j spare i k r t ic w =
 
 -- the same, where what was put in is known by equations
 pub switched_inside : (old : DemuxState) (by : ℕ) (set : Choice) (at same : ℤ) (added waits : Choice) (lead : Option ℕ) (drops told : List Removal) (left c : CacheState)
-    (written j : List DemuxRecord) (spare : ℕ)
+    (written j : List DemuxRecord) (ended : Choice) (spare : ℕ)
     → IsDemux old → is_known (knows old.list) set ≡ true → IsRetracked set drops old.cache left → told ≡ drops
     → written ≡ old.journal ++ ((Switched by set added same ∷ sought_again by set old.seeking) ++ told_drops by told)
     → Trims by old.heads left written c j → IsCache c → back_of old.heads c ≤ c.limits.back
@@ -207,14 +214,14 @@ pub switched_inside : (old : DemuxState) (by : ℕ) (set : Choice) (at same : �
       waiting = waits;
       switch = record { lead = lead; at = same };
       failure = None;
-      ended = nothing;
+      ended = ended;
       number = old.number + 1;
       kept = None;
       fed = false;
       journal = j;
       spare = spare;
     })
-switched_inside old by set at same added waits lead drops told left c written j spare i k r td w t ic b ea ed ew el =
+switched_inside old by set at same added waits lead drops told left c written j ended spare i k r td w t ic b ea ed ew el =
     let all : old.journal ++ ((Switched by set added same ∷ sought_again by set old.seeking) ++ told_drops by told) ≡ old.journal ++ (own_records by set same old ++ told_drops by drops) =
     ap (λ (x : Choice). old.journal ++ ((Switched by set x same ∷ sought_again by set old.seeking) ++ told_drops by told)) ed
     ∙ ap (λ (x : List Removal). old.journal ++ (own_records by set same old ++ told_drops by x)) td in
@@ -226,7 +233,7 @@ switched_inside old by set at same added waits lead drops told left c written j 
       waiting = x;
       switch = record { lead = lead; at = same };
       failure = None;
-      ended = nothing;
+      ended = ended;
       number = old.number + 1;
       kept = None;
       fed = false;
@@ -239,10 +246,10 @@ switched_inside old by set at same added waits lead drops told left c written j 
       waiting = waiting_after old.seeking (added_to set old);
       switch = record { lead = x; at = same };
       failure = None;
-      ended = nothing;
+      ended = ended;
       number = old.number + 1;
       kept = None;
       fed = false;
       journal = j;
       spare = spare;
-    })) (sym el) (switched_is old by set same drops left c j spare i k r trims ic b))
+    })) (sym el) (switched_is old by set same drops left c j ended spare i k r trims ic b))

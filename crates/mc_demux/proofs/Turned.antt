@@ -100,7 +100,7 @@ holds_all ps set c h hs e =
     by_front None rs e = (tt, e)
     by_front (Some r) rs e = e
 
-film_one : (ps : List Told) (set : Choice) (o : Option RangeState) → IfSome o (HoldsIn ps set) → IfSome o (HoldsFilm ps)
+pub film_one : (ps : List Told) (set : Choice) (o : Option RangeState) → IfSome o (HoldsIn ps set) → IfSome o (HoldsFilm ps)
 film_one ps set None h = tt
 film_one ps set (Some r) h = h.film
 

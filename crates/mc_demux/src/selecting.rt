@@ -7,24 +7,19 @@ ghost use Rattle.mc_demux.specs.Demuxers.{IsDemux};
 ghost use Rattle.mc_demux.specs.Film.{StandsFor};
 ghost use Rattle.mc_demux.specs.Keeping.{IsAsBefore, IsRoomy};
 ghost use Rattle.mc_demux.specs.Records.{HasRoom};
-ghost use Rattle.mc_demux.specs.Seeking.{IsRefused};
+ghost use Rattle.mc_demux.specs.Seeking.{IsNear, IsRefused};
 ghost use Rattle.mc_demux.specs.Selecting.{Selects, Switches, added_to, knows, sought_again, told_drops, waiting_after};
 
 use crate::answer::{DemuxError, Selected};
 use crate::choosing::{choice_of, refusal_of};
 use crate::demux::{Demux, DemuxJournal};
 use crate::reading::{FULL, has};
+use crate::seek::nothing;
 use crate::trim::trim;
 use crate::waiting::{Switch, Target};
 use mc_cache::Removal;
 use mc_journal::{DemuxRecord, Sought};
 use mc_packet::{Choice, NoMemory, TrackNo, Why};
-
-const NOTHING: Choice = Choice {
-    video: None,
-    audio: None,
-    sub: None,
-};
 
 /// The selected video track, else the selected audio track.
 fn lead_of(set: Choice) -> Option<TrackNo>
@@ -41,7 +36,7 @@ fn waiting_after(seeking: Option<Target>, added: Choice) -> Choice
     ensures { result ≡ waiting_after seeking added }
 {
     match seeking {
-        Some(_) => NOTHING,
+        Some(_) => nothing(),
         None => added,
     }
 }
@@ -122,16 +117,6 @@ impl Demux {
         }
     }
 
-    /// Makes room in the journal for a selection with all its drops, and for two records more.
-    fn make_room_to_select(&mut self) -> Result<(), NoMemory>
-        ensures same { IsRoomy self.old self.new }
-        ensures ok { OnOk result (count_of (ranges_of self.new.cache) + 34 ≤ self.new.spare) }
-        ensures demux { IsDemux self.new }
-    {
-        let held = self.cache.held() as usize;
-        self.journal.reserve(held + 64)
-    }
-
     /// Selects a set that is not the present one.
     fn switch(&mut self, by: u32, set: Choice, at: i64) -> Result<(), NoMemory>
         requires known { is_known (knows self.old.list) set ≡ true }
@@ -159,10 +144,44 @@ impl Demux {
             at,
         };
         self.failure = None;
-        self.ended = NOTHING;
+        self.ended = nothing();
         self.number += 1;
         self.kept = None;
         self.fed = false;
         Ok(())
+    }
+
+    /// A selection of the tracks with these numbers, at the time `at`, in nanoseconds. `Same` where
+    /// they are the present ones: nothing is recorded then. Else the current range keeps the queues
+    /// of tracks that stay, all other packets go, and the tracks that are added wait for their start,
+    /// which is that of the time `at`; a pending seek is sent again, of the new set. No failure and no
+    /// end stands any longer, and what a job brings that was given before is stale. The selection is
+    /// recorded, then a seek that is sent again, then what went; and then packets behind the readers
+    /// are dropped, as long as there are more octets of them than the limit. Refused with
+    /// `UnknownTrack` where a number is not listed, else with `Unsupported` where a track's blocks
+    /// can't be read, else with `TwoOfKind` where a number's kind is that of another one before it:
+    /// the first such number is told and recorded, and all else stays. Refused with `JournalFull`
+    /// exactly where the journal has 16,000,000 records, and with `NoMemory`; these change nothing
+    /// but room.
+    pub fn select(&mut self, by: u32, set: &[TrackNo], at: i64) -> Result<Selected, DemuxError>
+        requires near { IsNear at }
+        ensures value { Selects by set.now at self.old result self.new }
+        ensures film { (film : Film) → StandsFor film self.old → StandsFor film self.new }
+        ensures demux { IsDemux self.new }
+    {
+        if self.journal.len() >= FULL {
+            return Err(DemuxError::JournalFull);
+        }
+        if let Some(why) = refusal_of(&self.list, set) {
+            self.refuse(by, why)?;
+            return Err(DemuxError::Refused(why));
+        }
+        let chosen = choice_of(&self.list, set);
+        if chosen == self.set {
+            return Ok(Selected::Same);
+        }
+        self.make_room_to_change()?;
+        self.switch(by, chosen, at)?;
+        Ok(Selected::Changed)
     }
 }

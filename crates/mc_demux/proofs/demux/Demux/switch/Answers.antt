@@ -41,7 +41,7 @@ invariant_of-self-2 c =
     let added = subst (λ (d : DemuxState). c.added_to-added.result ≡ added_to c.args.set d) (sym c.self.view_is) c.added_to-added.ensures in
     let fits : SFits w64 c.args.at = search rules in
     switched_inside _ c.args.by c.args.set c.args.at _ c.added_to-added.result c.waiting_after-self-inside.result c.lead_of.result c.in_ok-drops.drops c.as_slice.result.now
-    c.retrack.new.self c.trim.new.cache c.write_switch.new.journal.items c.trim.new.journal.items _
+    c.retrack.new.self c.trim.new.cache c.write_switch.new.journal.items c.trim.new.journal.items _ _
     c.self.invariant known c.in_ok-drops.ensures.ok c.as_slice.ensures c.write_switch.ensures.items c.trim.ensures.value c.trim.ensures.cache c.trim.ensures.within
     (to_z-of_z w64 c.args.at fits) added c.waiting_after-self-inside.ensures c.lead_of.ensures
 
@@ -51,6 +51,6 @@ returns-clause-demux c =
     let added = subst (λ (d : DemuxState). c.added_to-added.result ≡ added_to c.args.set d) (sym c.self.view_is) c.added_to-added.ensures in
     let fits : SFits w64 c.args.at = search rules in
     switched_inside _ c.args.by c.args.set c.args.at _ c.added_to-added.result c.waiting_after-self-inside.result c.lead_of.result c.in_ok-drops.drops c.as_slice.result.now
-    c.retrack.new.self c.trim.new.cache c.write_switch.new.journal.items c.trim.new.journal.items _
+    c.retrack.new.self c.trim.new.cache c.write_switch.new.journal.items c.trim.new.journal.items _ _
     c.self.invariant known c.in_ok-drops.ensures.ok c.as_slice.ensures c.write_switch.ensures.items c.trim.ensures.value c.trim.ensures.cache c.trim.ensures.within
     (to_z-of_z w64 c.args.at fits) added c.waiting_after-self-inside.ensures c.lead_of.ensures

@@ -10,6 +10,7 @@ use Rattle.mc_packet.specs.declared.cache.Limits.{Limits}
 use Rattle.mc_journal.specs.declared.record.Sought.{Sought as How}
 use Rattle.mc_journal.specs.declared.record.Sought.TheVariants.{Cached, Sent}
 use Rattle.mc_journal.specs.declared.record.DemuxRecord.{DemuxRecord}
+use Rattle.mc_journal.specs.declared.record.DemuxRecord.TheVariants.{Sought}
 use Rattle.mc_journal.specs.Choices.{is_distinct, nothing, is_known}
 use Rattle.mc_journal.specs.Allowed.{how_by}
 use Rattle.mc_range.specs.Range.{RangeState, IsRange}
@@ -24,7 +25,7 @@ use Rattle.mc_demux.specs.declared.waiting.Target.{Target}
 use Rattle.mc_demux.specs.State.{DemuxState}
 use Rattle.mc_demux.specs.Demuxers.{AreLimits, IsDemux, IsPlaced, KeepsJob, heaviest}
 use Rattle.mc_demux.specs.Selecting.{knows}
-use Rattle.mc_demux.specs.Seeking.{Turns, heads_or, target_after}
+use Rattle.mc_demux.specs.Seeking.{Goes, Turns, heads_or, target_after}
 use Rattle.mc_demux.specs.Trimming.{Trims}
 use Rattle.mc_demux.proofs.Places.{serving_places}
 use Rattle.mc_demux.proofs.Trimmed.{trimmed}
@@ -198,3 +199,21 @@ goes_is old by t dir how turned c heads j j' own seeking none ended spare i it t
     trims_is (record old { heads = heads; seeking = seeking; waiting = none; failure = None; ended = ended; number = old.number + 1; kept = None; fed = false; spare = spare }) by turned j c j'
     (subst (λ (l : Limits). AreLimits l) (sym lim) i.limits) i.distinct i.known sets here (omega arith)
     (subst (λ (l : Limits). weight_of (ranges_of turned) ≤ l.forward + l.back + heaviest) (sym lim) all) refl trims ic b
+
+-- what was done by steps is the seek
+pub goes_told : (old now : DemuxState) (by : ℕ) (t same : ℤ) (dir : Dir) (how : How) (turned c : CacheState) (heads : Heads) (j j' : List DemuxRecord) (seeking : Option Target) (none ended : Choice) (spare : ℕ)
+    → old ≡ now → same ≡ t → IsCache turned → Turns old.set same dir how old.cache turned → how ≡ how_by (is_some (server old.set same dir old.cache))
+    → heads ≡ heads_or old.heads (heads_in old.set same dir (server old.set same dir old.cache)) → seeking ≡ target_after same dir how → none ≡ nothing → ended ≡ nothing
+    → j ≡ old.journal ++ Sought by old.set same dir how ∷ [] → Trims by heads turned j c j'
+    → Goes by t dir how now (record old { cache = c; heads = heads; seeking = seeking; waiting = none; failure = None; ended = ended; number = old.number + 1; kept = None; fed = false; journal = j'; spare = spare })
+goes_told old now by t same dir how turned c heads j j' seeking none ended spare was e it turns how_is heads_are seeking_is none_is ended_is pushed trims =
+    let after = heads_or old.heads (heads_in old.set same dir (server old.set same dir old.cache)) in
+    let went = subst (λ (h : Heads). Trims by h turned (old.journal ++ Sought by old.set same dir how ∷ []) c j') heads_are (subst (λ (x : List DemuxRecord). Trims by heads turned x c j') pushed trims) in
+    let new : Heads → Option Target → Choice → Choice → DemuxState =
+    λ (h : Heads) (s : Option Target) (w n : Choice). record old { cache = c; heads = h; seeking = s; waiting = w; failure = None; ended = n; number = old.number + 1; kept = None; fed = false; journal = j'; spare = spare } in
+    let all : new heads seeking none ended ≡ new after (target_after same dir how) nothing nothing =
+    ap (λ (h : Heads). new h seeking none ended) heads_are ∙ ap (λ (s : Option Target). new after s none ended) seeking_is
+    ∙ ap (λ (w : Choice). new after (target_after same dir how) w ended) none_is ∙ ap (λ (n : Choice). new after (target_after same dir how) nothing n) ended_is in
+    subst (λ (d : DemuxState). Goes by t dir how d (new heads seeking none ended)) was
+    (subst (λ (z : ℤ). Goes by z dir how old (new heads seeking none ended)) e
+    (record { turned = turned; is_cache = it; turns = turns; how_is = how_is; trims = went; changed = all }))

@@ -21,3 +21,4 @@ pub mod Seeking
 pub mod Sought
 pub mod Places
 pub mod Turned
+pub mod Opened

@@ -6,6 +6,7 @@ mod asking;
 mod demux;
 mod job;
 mod law;
+mod opening;
 mod outcomes;
 mod reading;
 mod seek;

@@ -22,3 +22,4 @@ pub mod Sought
 pub mod Places
 pub mod Turned
 pub mod Opened
+pub mod Viewed

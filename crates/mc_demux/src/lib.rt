@@ -11,6 +11,7 @@ mod outcomes;
 mod reading;
 mod seek;
 mod trim;
+mod viewing;
 mod waiting;
 mod wanting;
 

@@ -36,7 +36,7 @@ use Rattle.mc_demux.specs.Film.{Fits, StandsFor}
 use Rattle.mc_demux.specs.Opening.{HasTracks, MayOpen, first_starts, no_heads}
 use Rattle.mc_demux.specs.Outcomes.{head_at, heads_at}
 use Rattle.mc_demux.specs.Selecting.{knows}
-use Rattle.mc_demux.proofs.Places.{queue_selected}
+use Rattle.mc_demux.proofs.Places.{if_queue, queue_selected}
 use Rattle.mc_demux.proofs.Seeking.{none_of, not_nothing}
 
 -- ---- the cache
@@ -120,10 +120,6 @@ some_place (Some p) h = refl
 
 own_track : (r : RangeState) (set : Choice) (k : ℕ) → IsRange r → r.set ≡ set → is_some (queue_of k r.queues) ≡ true → has set k ≡ true
 own_track r set k i e q = subst (λ (c : Choice). has c k ≡ true) e (queue_selected r k i q)
-
-if_queue : (q : Option QueueState) (P : Type 0) → (is_some q ≡ true → P) → IfSome q (λ x. P)
-if_queue None P f = tt
-if_queue (Some q) P f = f refl
 
 -- ---- it is a demuxer
 

@@ -1,7 +1,8 @@
 -- What is told of a demuxer.
-use Rattle.std.specs.Prelude.{◌≡◌, ℕ, ◌+◌, ◌*◌, ℤ, Some, None, true, false, Bool, ◌&&◌, not, if◌then◌else◌, List, [], ◌∷◌, ◌++◌, length, reverse, Option, is_some, Result, Ok, Err}
+use Rattle.std.specs.Prelude.{◌≡◌, ℕ, ◌+◌, ◌*◌, ℤ, Some, None, true, false, Bool, ◌&&◌, not, if◌then◌else◌, [], ◌∷◌, ◌++◌, length, reverse, Option, is_some, Result, Ok, Err}
 use Rattle.mc_packet.specs.declared.cache.CacheView.{CacheView}
 use Rattle.mc_packet.specs.declared.cache.Status.{Status}
+use Rattle.mc_packet.specs.declared.walk.Ending.{Ending}
 use Rattle.mc_journal.specs.declared.record.DemuxRecord.{DemuxRecord}
 use Rattle.mc_journal.specs.declared.record.DemuxRecord.TheVariants.{Opened, Sought, Gave, Ended, Shown}
 use Rattle.mc_journal.specs.Choices.{each_of, has, is_empty, is_track, lead_of}
@@ -56,12 +57,16 @@ view_of d = record (cache_view d.heads d.cache) {
   ended = is_ended d;
 }
 
+-- bit 0 where the current range has the film's ending, and the number of ranges times 256
+abbrev pub flags_of : Option Ending → ℕ → ℕ
+flags_of ending ranges = (if is_some ending then 1 else 0) + 256 * ranges
+
 abbrev pub status_of : DemuxState → Status
 status_of d = record {
   seq = length d.journal;
   forward = forward_of d;
   back = back_of d;
-  flags = (if is_some (ending_in d.cache.current) then 1 else 0) + 256 * length (ranges_of d.cache);
+  flags = flags_of (ending_in d.cache.current) (length (ranges_of d.cache));
 }
 
 -- the view that is told is recorded, and all else stays but room

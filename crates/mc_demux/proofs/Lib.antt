@@ -28,3 +28,5 @@ pub mod Turned
 pub mod Switched
 pub mod Switching
 pub mod Reselected
+pub mod Opened
+pub mod Viewed

@@ -119,7 +119,7 @@ at_place set heads place k h e = elim (cases_Bool (is_track set.video k)) [
   ]
 ]
 
-if_queue : (q : Option QueueState) (P : Type 0) → (is_some q ≡ true → P) → IfSome q (λ x. P)
+pub if_queue : (q : Option QueueState) (P : Type 0) → (is_some q ≡ true → P) → IfSome q (λ x. P)
 if_queue None P f = tt
 if_queue (Some q) P f = f refl
 

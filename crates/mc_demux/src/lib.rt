@@ -7,12 +7,14 @@ mod choosing;
 mod demux;
 mod job;
 mod law;
+mod opening;
 mod outcomes;
 mod reading;
 mod rooms;
 mod seek;
 mod selecting;
 mod trim;
+mod viewing;
 mod waiting;
 mod wanting;
 

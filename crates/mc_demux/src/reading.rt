@@ -20,7 +20,7 @@ use mc_packet::{Choice, Ending, Heads, NoMemory, Packet, Pos, TrackNo};
 /// As many records as a journal has where it is full.
 pub(crate) const FULL: usize = 16_000_000;
 
-fn is_track(selected: Option<TrackNo>, track: TrackNo) -> bool
+pub(crate) fn is_track(selected: Option<TrackNo>, track: TrackNo) -> bool
     ensures { result ≡ is_track selected track }
 {
     match selected {

@@ -24,11 +24,7 @@ invariant_of-self c =
     c.push_reserved.ensures.items c.trim.ensures.value c.trim.ensures.cache c.trim.ensures.within
 
 pub returns-clause-demux : goal.returns-clause-demux
-returns-clause-demux c =
-    goes_is _ c.args.by (to_z w64 (of_z w64 c.args.t)) c.args.dir c.turn-how.result c.turn-how.new.cache c.trim.new.cache c.turn-how.new.heads c.push_reserved.new.self.items c.trim.new.journal.items
-    (Sought c.args.by c.self.inside.set (to_z w64 (of_z w64 c.args.t)) c.args.dir c.turn-how.result) c.target_after-self-inside.result c.nothing-self-inside.result c.nothing-self-inside-2.result _
-    c.self.invariant c.turn-how.ensures.cache c.turn-how.ensures.value c.turn-how.ensures.how c.turn-how.ensures.heads c.target_after-self-inside.ensures c.nothing-self-inside.ensures
-    c.push_reserved.ensures.items c.trim.ensures.value c.trim.ensures.cache c.trim.ensures.within
+returns-clause-demux c = invariant_of-self c
 
 pub returns-clause-value : goal.returns-clause-value
 returns-clause-value c =

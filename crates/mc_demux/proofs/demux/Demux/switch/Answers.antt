@@ -46,11 +46,4 @@ invariant_of-self-2 c =
     (to_z-of_z w64 c.args.at fits) added c.waiting_after-self-inside.ensures c.lead_of.ensures
 
 pub returns-clause-demux : goal.returns-clause-demux
-returns-clause-demux c =
-    let known : is_known (knows c.self.inside.list) c.args.set ≡ true = subst (λ (d : DemuxState). is_known (knows d.list) c.args.set ≡ true) (sym c.self.view_is) c.requires.known in
-    let added = subst (λ (d : DemuxState). c.added_to-added.result ≡ added_to c.args.set d) (sym c.self.view_is) c.added_to-added.ensures in
-    let fits : SFits w64 c.args.at = search rules in
-    switched_inside _ c.args.by c.args.set c.args.at _ c.added_to-added.result c.waiting_after-self-inside.result c.lead_of.result c.in_ok-drops.drops c.as_slice.result.now
-    c.retrack.new.self c.trim.new.cache c.write_switch.new.journal.items c.trim.new.journal.items _ _
-    c.self.invariant known c.in_ok-drops.ensures.ok c.as_slice.ensures c.write_switch.ensures.items c.trim.ensures.value c.trim.ensures.cache c.trim.ensures.within
-    (to_z-of_z w64 c.args.at fits) added c.waiting_after-self-inside.ensures c.lead_of.ensures
+returns-clause-demux c = invariant_of-self-2 c

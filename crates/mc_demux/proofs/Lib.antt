@@ -18,3 +18,8 @@ pub mod Telling
 pub mod Nearness
 pub mod Jobs
 pub mod Seeking
+pub mod SameTracks
+pub mod Tied
+pub mod Roomy
+pub mod Settled
+pub mod Parts

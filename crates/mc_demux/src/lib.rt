@@ -4,7 +4,9 @@
 mod answer;
 mod asking;
 mod demux;
+mod feeding;
 mod job;
+mod joining;
 mod law;
 mod outcomes;
 mod reading;

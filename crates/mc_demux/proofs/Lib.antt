@@ -23,3 +23,8 @@ pub mod Tied
 pub mod Roomy
 pub mod Settled
 pub mod Parts
+pub mod FilmJoins
+pub mod FilmRoomy
+pub mod FilmSettled
+pub mod FilmParts
+pub mod Takings

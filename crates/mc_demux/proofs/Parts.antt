@@ -1,8 +1,8 @@
 -- A part of the film that is taken leaves a demuxer.
 use Rattle.std.proofs.Common.{◌≡◌, ℕ, ◌+◌, ◌*◌, ◌^◌, ◌≤◌, ◌<◌, ◌==◌, Bool, true, false, Option, Some, None, List, [], ◌∷◌, ◌++◌, refl, ap, sym, subst, ◌∙◌, inl, inr, arith, length, length-append}
-use Rattle.std.specs.Prelude.{is_some, if◌then◌else◌, IfSome, IsSomeAnd, sum_by, nat_le}
-use Rattle.std.specs.List.{filter, AllByRecursion}
-use Rattle.std.proofs.lemmas.Bool.{cases_Bool, eqb-true, eq-eqb}
+use Rattle.std.specs.Prelude.{if◌then◌else◌, IfSome, IsSomeAnd, sum_by}
+use Rattle.std.specs.List.{AllByRecursion}
+use Rattle.std.proofs.lemmas.Bool.{cases_Bool, eqb-true}
 use Rattle.std.proofs.lemmas.List.Sums.{sum_by-cons, sum_by-append}
 use Rattle.mc_packet.specs.declared.packet.Packet.{Packet}
 use Rattle.mc_packet.specs.declared.packet.Pos.{Pos}
@@ -18,21 +18,19 @@ use Rattle.mc_journal.specs.Films.{rank}
 use Rattle.mc_queue.specs.Places.{from_place, is_from, weight_of as packet_weight, weights}
 use Rattle.mc_queue.specs.Queue.{QueueState}
 use Rattle.mc_range.specs.Range.{RangeState, IsRange, count, place_at, weight_in as queue_weight}
-use Rattle.mc_range.specs.Growing.{AllApart, AreApart, ExtendsIn, IsFed, news, of_track, taker}
+use Rattle.mc_range.specs.Growing.{AreApart, ExtendsIn, IsFed, news, of_track, taker}
 use Rattle.mc_range.proofs.Owners.{all_apart}
 use Rattle.mc_cache.specs.Cache.{CacheState, IsCache, count_in, count_of, in_front, mark_in, ranges_of, weight_in, weight_of}
 use Rattle.mc_cache.specs.Changing as changing
 use Rattle.mc_cache.specs.Pruning.{back_of}
 use Rattle.mc_demux.specs.declared.job.Job.{Job}
 use Rattle.mc_demux.specs.declared.job.Job.TheVariants.{SeekTo, Refresh, Resume, Read, Idle}
-use Rattle.mc_demux.specs.declared.waiting.Failure.{Failure}
-use Rattle.mc_demux.specs.declared.waiting.Target.{Target}
 use Rattle.mc_demux.specs.State.{DemuxState, forward_of}
-use Rattle.mc_demux.specs.Demuxers.{AreLimits, IsDemux, IsPlaced, KeepsJob, heaviest}
+use Rattle.mc_demux.specs.Demuxers.{AreLimits, IsDemux, KeepsJob, heaviest}
 use Rattle.mc_demux.specs.Outcomes.{PartFits, is_at, took_in}
 use Rattle.mc_demux.specs.Feeding.{TakesPart}
 use Rattle.mc_demux.proofs.SameTracks.{SameTracks, fed_tracks, placed_same}
-use Rattle.mc_demux.proofs.Settled.{IsSettled, longer, settled}
+use Rattle.mc_demux.proofs.Settled.{longer, settled}
 
 -- ---- what is so where a part is awaited
 
@@ -239,7 +237,7 @@ sets_current set chunk None n rs f a = absurd f
 sets_current set chunk (Some x) None rs f a = absurd f
 sets_current set chunk (Some x) (Some y) rs f a = (f.set_is ∙ a.0, a.1)
 
-fed_sets : (set : Choice) (chunk : Chunk) (old new : CacheState) → changing.Feeds chunk old new → AllByRecursion (λ r. r.set ≡ set) (ranges_of old) → AllByRecursion (λ r. r.set ≡ set) (ranges_of new)
+pub fed_sets : (set : Choice) (chunk : Chunk) (old new : CacheState) → changing.Feeds chunk old new → AllByRecursion (λ r. r.set ≡ set) (ranges_of old) → AllByRecursion (λ r. r.set ≡ set) (ranges_of new)
 fed_sets set chunk old new f a =
     subst (λ (rs : List RangeState). AllByRecursion (λ r. r.set ≡ set) (in_front new.current rs)) (sym f.others_is) (sets_current set chunk old.current new.current old.others f.current a)
 

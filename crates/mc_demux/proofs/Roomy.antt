@@ -1,33 +1,30 @@
 -- A cache with more room holds the same, and so a demuxer with it is one, of the same film.
-use Rattle.std.proofs.Common.{◌≡◌, ℕ, ◌+◌, ◌*◌, ◌≤◌, ◌<◌, ◌-◌, Bool, true, false, Option, Some, None, List, [], ◌∷◌, ◌++◌, refl, ap, sym, subst, ◌∙◌, inl, inr, arith, length}
-use Rattle.std.specs.Prelude.{is_some, IfSome, IsSomeAnd, map, reverse}
+use Rattle.std.proofs.Common.{◌≡◌, ℕ, ◌+◌, ◌*◌, ◌≤◌, ◌<◌, ◌-◌, Option, Some, None, List, refl, ap, sym, subst, ◌∙◌, arith, length}
+use Rattle.std.specs.Prelude.{IfSome, IsSomeAnd}
 use Rattle.std.specs.List.{AllByRecursion}
-use Rattle.std.specs.Option.{option_map}
 use Rattle.mc_packet.specs.declared.choice.Choice.{Choice}
 use Rattle.mc_packet.specs.declared.cache.Heads.{Heads}
 use Rattle.mc_packet.specs.declared.cache.Limits.{Limits}
 use Rattle.mc_packet.specs.declared.packet.Pos.{Pos}
 use Rattle.mc_packet.specs.declared.walk.Ending.{Ending}
 use Rattle.mc_packet.specs.declared.walk.Mark.{Mark}
-use Rattle.mc_journal.specs.declared.record.DemuxRecord.{DemuxRecord}
 use Rattle.mc_journal.specs.declared.record.Removal.{Removal}
 use Rattle.mc_journal.specs.Films.{rank}
 use Rattle.mc_queue.specs.Places.{from_place, weights}
 use Rattle.mc_queue.specs.Queue.{QueueState}
-use Rattle.mc_range.specs.Range.{RangeState, IsRange, IsRoomier, Roomier}
-use Rattle.mc_range.specs.Cutting.{weight_ahead, weight_from}
+use Rattle.mc_range.specs.Range.{RangeState, IsRange, Roomier}
+use Rattle.mc_range.specs.Cutting.{weight_ahead}
 use Rattle.mc_range.proofs.Unions.{roomier_range}
-use Rattle.mc_cache.specs.Cache.{CacheState, IsCache, IsOther, count_of, ending_in, in_front, mark_in, ranges_of, weight_of}
+use Rattle.mc_cache.specs.Cache.{CacheState, IsCache, IsOther, count_of, in_front, mark_in, ranges_of, weight_of}
 use Rattle.mc_cache.specs.Changing.{IsSameButRoom, RoomierIn}
-use Rattle.mc_cache.specs.Joining.{IsJoinedUp, Joins, JoinsFrom}
+use Rattle.mc_cache.specs.Joining.{IsJoinedUp, JoinsFrom}
 use Rattle.mc_cache.specs.Pruning.{ahead_in, back_of}
 use Rattle.mc_cache.proofs.United.{roomier_weighs}
 use Rattle.mc_demux.specs.declared.job.Job.{Job}
 use Rattle.mc_demux.specs.declared.job.Job.TheVariants.{SeekTo, Refresh, Resume, Read, Idle}
-use Rattle.mc_demux.specs.State.{DemuxState, forward_of}
+use Rattle.mc_demux.specs.State.{DemuxState}
 use Rattle.mc_demux.specs.Demuxers.{AreLimits, IsDemux, IsKept, KeepsJob, heaviest}
-use Rattle.mc_demux.specs.Keeping.{IsAsBefore}
-use Rattle.mc_demux.proofs.SameTracks.{HasSameTracks, SameTracks, placed_same, roomier_tracks, same_both, tracks_self}
+use Rattle.mc_demux.proofs.SameTracks.{SameTracks, placed_same, roomier_tracks, same_both}
 use Rattle.mc_demux.proofs.Tied.{roomier_counts, tied}
 
 -- ---- the current range
@@ -37,7 +34,7 @@ roomier_current None n r = r
 roomier_current (Some a) None r = absurd r
 roomier_current (Some a) (Some b) r = roomier_tracks a b r
 
-range_roomier : (o n : Option RangeState) → RoomierIn o n → IfSome o IsRange → IfSome n IsRange
+pub range_roomier : (o n : Option RangeState) → RoomierIn o n → IfSome o IsRange → IfSome n IsRange
 range_roomier None n r i = subst (λ (x : Option RangeState). IfSome x IsRange) (sym r) tt
 range_roomier (Some a) None r i = absurd r
 range_roomier (Some a) (Some b) r i =
@@ -112,7 +109,7 @@ holds_same old new s =
           ap (λ n. n - ahead_in heads new.current) w ∙ ap (λ n. weight_of (ranges_of old) - n) (ahead_roomier heads old.current new.current s.current);
     }
 
-sets_same : (set : Choice) (old new : CacheState) → IsSameButRoom old new → AllByRecursion (λ r. r.set ≡ set) (ranges_of old) → AllByRecursion (λ r. r.set ≡ set) (ranges_of new)
+pub sets_same : (set : Choice) (old new : CacheState) → IsSameButRoom old new → AllByRecursion (λ r. r.set ≡ set) (ranges_of old) → AllByRecursion (λ r. r.set ≡ set) (ranges_of new)
 sets_same set old new s a =
     subst (λ (xs : List RangeState). AllByRecursion (λ r. r.set ≡ set) (in_front new.current xs)) (sym s.others_is) (sets_roomier set old.current new.current old.others s.current a)
 

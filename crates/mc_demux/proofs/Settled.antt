@@ -1,19 +1,17 @@
 -- What joins and drops leave of what a demuxer rests on, and what they write.
-use Rattle.std.proofs.Common.{◌≡◌, ℕ, zero, suc, ◌+◌, ◌≤◌, ◌<◌, Bool, true, false, Option, Some, None, List, [], ◌∷◌, ◌++◌, refl, ap, sym, subst, ◌∙◌, arith, length, length-append, append_assoc}
-use Rattle.std.specs.Prelude.{is_some, IfSome, map}
+use Rattle.std.proofs.Common.{◌≡◌, ℕ, zero, suc, ◌≤◌, Option, List, [], ◌∷◌, ◌++◌, refl, ap, sym, subst, ◌∙◌, arith, length, length-append, append_assoc}
+use Rattle.std.specs.Prelude.{map}
 use Rattle.std.specs.List.{AllByRecursion}
 use Rattle.mc_packet.specs.declared.choice.Choice.{Choice}
 use Rattle.mc_packet.specs.declared.cache.Heads.{Heads}
-use Rattle.mc_packet.specs.declared.cache.Limits.{Limits}
 use Rattle.mc_journal.specs.declared.record.DemuxRecord.{DemuxRecord}
 use Rattle.mc_journal.specs.declared.record.DemuxRecord.TheVariants.{Opened, Sought, Switched, Found, Fed, Failed, Starved, Dropped, Joined, Gave, Ended, Overfull, Faulted, Wanting, Shown, Refused}
 use Rattle.mc_journal.specs.declared.record.Removal.{Removal}
-use Rattle.mc_range.specs.Range.{RangeState}
 use Rattle.mc_cache.specs.Cache.{CacheState, IsCache, ranges_of, weight_of}
 use Rattle.mc_demux.specs.declared.waiting.Target.{Target}
 use Rattle.mc_demux.specs.Demuxers.{IsPlaced}
 use Rattle.mc_demux.specs.Records.{IsExtra, IsLimitDrop}
-use Rattle.mc_demux.specs.Settling.{Settles, TellsJoins, with_drops, with_joins}
+use Rattle.mc_demux.specs.Settling.{Settles, with_drops, with_joins}
 use Rattle.mc_demux.proofs.SameTracks.{placed_same}
 use Rattle.mc_demux.proofs.Roomy.{tied_up}
 use Rattle.mc_demux.proofs.Trimmed.{trimmed}

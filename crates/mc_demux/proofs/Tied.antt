@@ -1,9 +1,8 @@
 -- What joins of a range leave, whatever film: no more packets, queues of the same tracks, and few records.
-use Rattle.std.proofs.Common.{◌≡◌, ℕ, ◌+◌, ◌*◌, ◌≤◌, ◌<◌, Bool, true, false, Option, Some, None, List, [], ◌∷◌, ◌++◌, refl, ap, sym, subst, ◌∙◌, inl, inr, arith, length, length-append}
-use Rattle.std.specs.Prelude.{is_some, IfSome, IsSomeAnd, nat_le, sum_by}
+use Rattle.std.proofs.Common.{◌≡◌, ℕ, ◌+◌, ◌*◌, ◌≤◌, Bool, Option, Some, None, List, [], ◌∷◌, ◌++◌, refl, ap, sym, inl, inr, arith, length, length-append}
+use Rattle.std.specs.Prelude.{nat_le}
 use Rattle.std.specs.List.{find, AllByRecursion}
 use Rattle.std.proofs.lemmas.Bool.{cases_Bool, leb-true, ltb-true}
-use Rattle.std.proofs.lemmas.List.Sums.{sum_by-cons}
 use Rattle.mc_packet.specs.declared.packet.Packet.{Packet}
 use Rattle.mc_packet.specs.declared.choice.Choice.{Choice}
 use Rattle.mc_packet.specs.declared.walk.Mark.{Mark}
@@ -14,12 +13,11 @@ use Rattle.mc_journal.specs.declared.record.Removal.{Removal}
 use Rattle.mc_queue.specs.Places.{Rise, before, from_place, is_before, is_from, place}
 use Rattle.mc_queue.specs.Queue.{QueueState, IsQueue}
 use Rattle.mc_queue.specs.Union.{united, in_front, behind_all}
-use Rattle.mc_range.specs.declared.queues.Queues.{Queues}
 use Rattle.mc_range.specs.Range.{RangeState, IsRange, IsRoomier, QueueIn, Roomier, count, meets_range}
 use Rattle.mc_range.specs.Joining.{IsJoined, UnitesIn}
 use Rattle.mc_cache.specs.Cache.{IsOther, count_in, count_of, weight_in, weight_of, without_first}
-use Rattle.mc_cache.specs.Removals.{put_in, put_all, removal_if, removal_in, removals_in, removals_of}
-use Rattle.mc_cache.specs.Joining.{Joins, neighbour, others_left}
+use Rattle.mc_cache.specs.Removals.{put_in, put_all, removal_if, removal_in, removals_of}
+use Rattle.mc_cache.specs.Joining.{Joins}
 use Rattle.mc_cache.specs.Joining.Joins.{parted, united as joins_united, unjoined}
 use Rattle.mc_cache.proofs.Lists.{fewer}
 use Rattle.mc_cache.proofs.Standing.{all_without}

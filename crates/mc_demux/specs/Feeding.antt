@@ -1,5 +1,5 @@
 -- A part of the film that is taken.
-use Rattle.std.specs.Prelude.{◌≡◌, ◌+◌, List, [], ◌∷◌, ◌++◌, None}
+use Rattle.std.specs.Prelude.{◌≡◌, ◌+◌, [], ◌∷◌, ◌++◌, None}
 use Rattle.mc_packet.specs.declared.walk.Chunk.{Chunk}
 use Rattle.mc_journal.specs.declared.record.DemuxRecord.TheVariants.{Fed}
 use Rattle.mc_cache.specs.Cache.{CacheState, IsCache, mark_in}

@@ -52,7 +52,10 @@ impl Demux {
         ensures demux { IsDemux self.new }
     {
         let Chunk {
-            from, to, ending, ..
+            from,
+            to,
+            ending,
+            ..
         } = chunk;
         let took = self.cache.feed(chunk)?;
         self.journal.push_reserved(DemuxRecord::Fed {
@@ -67,5 +70,32 @@ impl Demux {
         self.kept = None;
         self.fed = is_at(to, self.cache.mark());
         Ok(())
+    }
+
+    /// Takes the part of the film that the job of this number brought. The current range grows by its
+    /// packets, each track by its own, and is joined with each other range that it then touches; then
+    /// packets behind the readers are dropped, as long as there are more octets of them than the limit.
+    /// All of it is recorded, and the next job bears the next number. `Stale` exactly where the number
+    /// is not the present one: then nothing changes. Refused with `JournalFull` exactly where the
+    /// journal has 16,000,000 records, and with `NoMemory`; nothing changes then but room, and the job
+    /// is kept still.
+    pub fn feed(&mut self, no: u64, chunk: Chunk) -> Result<Taken, DemuxError>
+        requires brought { BringsPart no chunk self.old }
+        ensures value { Feeds no chunk self.old result self.new }
+        ensures film { (film : Film) → IsPartOf film chunk → StandsFor film self.old → StandsFor film self.new }
+        ensures demux { IsDemux self.new }
+    {
+        if self.journal.len() >= FULL {
+            return Err(DemuxError::JournalFull);
+        }
+        if no != self.number {
+            return Ok(Taken::Stale {
+                asked: no,
+                now: self.number,
+            });
+        }
+        self.make_room_to_feed(&chunk)?;
+        self.take_part(chunk)?;
+        Ok(Taken::Taken)
     }
 }

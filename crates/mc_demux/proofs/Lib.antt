@@ -30,3 +30,13 @@ pub mod Switching
 pub mod Reselected
 pub mod Opened
 pub mod Viewed
+pub mod SameTracks
+pub mod Tied
+pub mod Roomy
+pub mod Settled
+pub mod Parts
+pub mod FilmJoins
+pub mod FilmRoomy
+pub mod FilmSettled
+pub mod FilmParts
+pub mod Takings

@@ -190,6 +190,7 @@ made_is list set limits c heads none ended journal spare m =
       cache = m.cache;
       limits = subst (λ (l : Limits). AreLimits l) (sym m.limits_are) m.may.limits_are;
       distinct = dist;
+      known = m.may.known;
       sets = subst (λ (rs : List RangeState). AllByRecursion (λ x. x.set ≡ set) rs) (sym b.all) (b.begun.set_is, tt);
       placed =
           subst (λ (o : Option RangeState). IsPlaced set heads none None o) (sym b.current_is)

@@ -267,6 +267,7 @@ part_is old chunk own fed c j spare b i k h ifed f s ic within =
       cache = ic;
       limits = subst (λ (x : Limits). AreLimits x) (sym lim) i.limits;
       distinct = i.distinct;
+      known = i.known;
       sets = d.sets (fed_sets old.set chunk old.cache fed f i.sets);
       placed = d.placed (placed_same old.set old.heads old.waiting old.seeking old.cache.current fed.current g.same i.placed);
       numbered = omega arith;

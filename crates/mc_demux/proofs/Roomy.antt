@@ -152,6 +152,7 @@ roomy_is old c n s ic more i =
       cache = ic;
       limits = subst (λ (l : Limits). AreLimits l) (sym e) i.limits;
       distinct = i.distinct;
+      known = i.known;
       sets = sets_same old.set old.cache c s i.sets;
       placed = placed_same old.set old.heads old.waiting old.seeking old.cache.current c.current (roomier_current old.cache.current c.current s.current) i.placed;
       numbered = i.numbered;

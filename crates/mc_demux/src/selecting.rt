@@ -1,13 +1,11 @@
 //! Other tracks are selected.
-ghost use Rattle.std.specs.Prelude.{◌≡◌, ◌≤◌, ◌<◌, ◌+◌, ◌*◌, ◌^◌, ◌++◌, ◌∷◌, [], ◌≤ℤ◌, neg_ℤ, pos, true, length, map, not, ◌||◌, OnOk, OnErr, vec_capacity, vec_len};
-ghost use Rattle.mc_journal.specs.Choices.{has, is_known, kept_of, kept_track, lead_of, or_else};
+ghost use Rattle.std.specs.Prelude.{◌≡◌, ◌≤◌, ◌<◌, ◌+◌, ◌++◌, ◌∷◌, true, length, not, ◌||◌, OnOk, OnErr, vec_capacity, vec_len};
+ghost use Rattle.mc_journal.specs.Choices.{has, is_known, kept_track};
 ghost use Rattle.mc_journal.specs.Films.{Film};
 ghost use Rattle.mc_cache.specs.Cache.{count_of, ranges_of};
 ghost use Rattle.mc_demux.specs.Demuxers.{IsDemux};
 ghost use Rattle.mc_demux.specs.Film.{StandsFor};
-ghost use Rattle.mc_demux.specs.Keeping.{IsAsBefore, IsRoomy};
-ghost use Rattle.mc_demux.specs.Records.{HasRoom};
-ghost use Rattle.mc_demux.specs.Seeking.{IsNear, IsRefused};
+ghost use Rattle.mc_demux.specs.Seeking.{IsNear};
 ghost use Rattle.mc_demux.specs.Selecting.{Selects, Switches, added_to, knows, sought_again, told_drops, waiting_after};
 
 use crate::answer::{DemuxError, Selected};
@@ -16,20 +14,11 @@ use crate::demux::{Demux, DemuxJournal};
 use crate::reading::{FULL, has};
 use crate::seek::nothing;
 use crate::trim::trim;
+use crate::viewing::lead_of;
 use crate::waiting::{Switch, Target};
 use mc_cache::Removal;
 use mc_journal::{DemuxRecord, Sought};
-use mc_packet::{Choice, NoMemory, TrackNo, Why};
-
-/// The selected video track, else the selected audio track.
-fn lead_of(set: Choice) -> Option<TrackNo>
-    ensures { result ≡ lead_of set }
-{
-    match set.video {
-        Some(track) => Some(track),
-        None => set.audio,
-    }
-}
+use mc_packet::{Choice, NoMemory, TrackNo};
 
 /// Added tracks wait, unless a seek is pending, which finds all starts.
 fn waiting_after(seeking: Option<Target>, added: Choice) -> Choice

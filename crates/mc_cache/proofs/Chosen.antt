@@ -1,5 +1,5 @@
 -- Which range a seek makes current, and which others stay.
-use Rattle.std.proofs.Common.{◌≡◌, ℕ, Bool, true, false, ◌+◌, ◌<◌, ◌≤◌, ◌^◌, length, List, [], ◌∷◌, Option, Some, None, refl, ap, sym, ◌∙◌, arith, inl, inr}
+use Rattle.std.proofs.Common.{◌≡◌, Bool, true, false, ◌+◌, ◌<◌, ◌≤◌, ◌^◌, length, List, ◌∷◌, Option, Some, None, refl, ap, sym, ◌∙◌, arith, inl, inr}
 use Rattle.std.specs.Prelude.{if◌then◌else◌, ℤ, is_some, IfSome, IfNone, OnSome}
 use Rattle.std.specs.List.{AllByRecursion, filter, find}
 use Rattle.std.proofs.lemmas.Bool.{cases_Bool}
@@ -8,7 +8,7 @@ use Rattle.mc_packet.specs.declared.choice.Choice.{Choice}
 use Rattle.mc_packet.specs.declared.choice.Dir.{Dir}
 use Rattle.mc_range.specs.Range.{RangeState}
 use Rattle.mc_range.specs.Serving.{heads_of}
-use Rattle.mc_cache.specs.Cache.{CacheState, Fewer, IsCache, IsOther, holds, in_front, left_with, ranges_of, weight_in, weight_of, with_current, with_others, without_first}
+use Rattle.mc_cache.specs.Cache.{CacheState, Fewer, IsCache, IsOther, holds, in_front, left_with, weight_in, weight_of, with_current, with_others, without_first}
 use Rattle.mc_cache.specs.Changing.{IsChosen, IsLeft, KeepsRest, heads_in, server, serves}
 use Rattle.mc_cache.proofs.Lists.{all_held, fewer, found_passes, unfound}
 

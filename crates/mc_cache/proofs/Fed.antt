@@ -1,20 +1,19 @@
 -- A range that is fed weighs at most so much more as the part's packets.
-use Rattle.std.proofs.Common.{◌≡◌, ℕ, ◌+◌, ◌<◌, ◌≤◌, ◌==◌, Bool, true, false, List, [], ◌∷◌, ◌++◌, Option, Some, None, refl, ap, sym, ◌∙◌, arith, inl, inr}
-use Rattle.std.specs.Prelude.{if◌then◌else◌, IsSomeAnd, Result, Ok, Err, OnOk, OnErr}
+use Rattle.std.proofs.Common.{◌≡◌, ℕ, ◌+◌, ◌≤◌, ◌==◌, Bool, true, false, List, [], ◌∷◌, Option, Some, None, refl, ap, ◌∙◌, arith, inl, inr}
+use Rattle.std.specs.Prelude.{Result, Ok, Err, OnOk, OnErr}
 use Rattle.std.specs.List.{filter}
 use Rattle.std.specs.declared.alloc.AllocError.{AllocError}
-use Rattle.std.proofs.lemmas.Bool.{cases_Bool, eqb-true, eqb-false}
+use Rattle.std.proofs.lemmas.Bool.{cases_Bool, eqb-true}
 use Rattle.std.proofs.lemmas.List.Sums.{sum_by-cons}
 use Rattle.mc_packet.specs.declared.packet.Packet.{Packet}
 use Rattle.mc_packet.specs.declared.packet.Pos.{Pos}
 use Rattle.mc_packet.specs.declared.walk.Chunk.{Chunk}
 use Rattle.mc_journal.specs.Films.{rank}
-use Rattle.mc_queue.specs.Places.{weight_of as weight_of_packet, weights, from_place}
+use Rattle.mc_queue.specs.Places.{weight_of as weight_of_packet, weights}
 use Rattle.mc_queue.specs.Queue.{QueueState}
 use Rattle.mc_queue.proofs.Rising.{less_weight_from, weights_of_two}
-use Rattle.mc_range.specs.declared.queues.Queues.{Queues}
-use Rattle.mc_range.specs.Range.{RangeState, IsRange, place_at, weight_in as weight_of_queue, weight_of_all}
-use Rattle.mc_range.specs.Growing.{AllApart, AreApart, Extends, ExtendsIn, ExtendsAll, IsFed, lacks_room, news, of_track}
+use Rattle.mc_range.specs.Range.{RangeState, IsRange, place_at, weight_in as weight_of_queue}
+use Rattle.mc_range.specs.Growing.{AreApart, ExtendsIn, IsFed, lacks_room, news, of_track}
 use Rattle.mc_range.proofs.Owners.{all_apart}
 use Rattle.mc_cache.specs.Cache.{weight_in}
 

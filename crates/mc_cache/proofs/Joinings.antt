@@ -1,25 +1,22 @@
 -- Over a film's list the joins of a range are those of the rule, one by one, and no ranges differ.
-use Rattle.std.proofs.Common.{◌≡◌, ℕ, zero, suc, ◌+◌, ◌==◌, Bool, true, false, ◌&&◌, List, [], ◌∷◌, ◌++◌, Option, Some, None, refl, ap, sym, ◌∙◌, arith}
-use Rattle.std.specs.Prelude.{IfSome, ℤ, map}
+use Rattle.std.proofs.Common.{◌≡◌, ℕ, suc, ◌+◌, Bool, true, List, [], Option, Some, None, refl, ap, sym, ◌∙◌, arith}
+use Rattle.std.specs.Prelude.{map}
 use Rattle.std.specs.List.{AllByRecursion, find}
 use Rattle.std.specs.Option.{option_map}
 use Rattle.std.proofs.lemmas.Bool.{eq-eqb}
 use Rattle.mc_packet.specs.declared.choice.Choice.{Choice}
-use Rattle.mc_packet.specs.declared.packet.Pos.{Pos}
 use Rattle.mc_journal.specs.declared.record.Removal.{Removal}
 use Rattle.mc_journal.specs.Told.{Told}
 use Rattle.mc_journal.specs.Films.{IsRising}
-use Rattle.mc_journal.specs.Ranges.{Range, touches}
-use Rattle.mc_journal.specs.Stands.{Stand, first_that, join_with, joined as joined_stand, union_range, without_first as stand_without}
+use Rattle.mc_journal.specs.Ranges.{touches}
+use Rattle.mc_journal.specs.Stands.{Stand, joined as joined_stand, union_range}
 use Rattle.mc_journal.specs.Allowed.{touched}
-use Rattle.mc_queue.specs.declared.queue.UnionError.{UnionError}
-use Rattle.mc_queue.specs.declared.queue.UnionError.TheVariants.{Mismatch as Differ, NoMemory}
-use Rattle.mc_range.specs.Range.{RangeState, IsRange, IsRoomier, as_range, is_same, is_same_set, meets_range}
-use Rattle.mc_range.specs.Joining.{IsJoined, JoinRefused}
+use Rattle.mc_queue.specs.declared.queue.UnionError.TheVariants.{Mismatch as Differ}
+use Rattle.mc_range.specs.Range.{RangeState, IsRange, as_range, is_same, is_same_set, meets_range}
 use Rattle.mc_range.proofs.Joined.{joined_ranges, joined_film, only_memory}
 use Rattle.mc_cache.specs.Cache.{IsOther, without_first}
 use Rattle.mc_cache.specs.Filmed.{AreTouched, HoldsIn, JoinsFilm, joined_times, stand_with}
-use Rattle.mc_cache.specs.Joining.{Joins, neighbour, others_left}
+use Rattle.mc_cache.specs.Joining.{Joins}
 use Rattle.mc_cache.specs.Joining.Joins.{parted, united, unjoined}
 use Rattle.mc_cache.proofs.Lists.{fewer, found_passes}
 use Rattle.mc_cache.proofs.Standing.{Held, all_find, all_without, both_all, find_same, without_same}

@@ -11,3 +11,9 @@ pub mod Shows
 pub mod Standing
 pub mod Feeding
 pub mod Joinings
+pub mod Roomy
+pub mod Added
+pub mod FilmTold
+pub mod Viewed
+pub mod FilmDrops
+pub mod FilmPruned

@@ -1,15 +1,14 @@
 -- Lists of ranges: their numbers, the first that passes, and those that are left without it.
-use Rattle.std.proofs.Common.{◌≡◌, ℕ, zero, suc, ◌+◌, ◌-◌, ◌*◌, ◌^◌, ◌<◌, ◌≤◌, Bool, true, false, List, [], ◌∷◌, length, take, drop, get_or, Option, Some, None, arith, refl, ap, sym, ◌∙◌, inl, inr, nat_lt, not, cond}
-use Rattle.std.specs.Prelude.{if◌then◌else◌, is_some}
+use Rattle.std.proofs.Common.{◌≡◌, ℕ, zero, suc, ◌+◌, ◌*◌, ◌^◌, ◌<◌, ◌≤◌, Bool, true, false, List, [], ◌∷◌, length, take, get_or, Option, Some, None, arith, refl, ap, sym, ◌∙◌, inl, inr, nat_lt}
+use Rattle.std.specs.Prelude.{is_some}
 use Rattle.std.specs.List.{AllByRecursion, filter, find, remove, slice_get, sum_by, position, position_or_len, list_any}
-use Rattle.std.proofs.lemmas.Bool.{cases_Bool, lt-ltb, ltb-true, ltb-false}
-use Rattle.std.proofs.lemmas.List.Folds.{find_at}
+use Rattle.std.proofs.lemmas.Bool.{cases_Bool, ltb-true, ltb-false}
 use Rattle.std.proofs.lemmas.List.Sums.{sum_by-cons, sum_by_more_le, sum_by_more}
 use Rattle.mc_packet.specs.declared.packet.Packet.{Packet}
 use Rattle.mc_queue.specs.Places.{weight_of as weight_of_packet, weights}
 use Rattle.mc_queue.specs.Queue.{QueueState}
 use Rattle.mc_range.specs.Range.{RangeState, count, weight_in as weight_of_queue}
-use Rattle.mc_cache.specs.Cache.{Fewer, IsOther, holds, weight_in, weight_of, count_in, count_of, without_first, left_with, in_front}
+use Rattle.mc_cache.specs.Cache.{Fewer, IsOther, holds, weight_in, weight_of, count_in, count_of, without_first, in_front}
 
 -- ---- each packet weighs 64 at least
 

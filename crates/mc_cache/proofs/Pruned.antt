@@ -1,7 +1,6 @@
 -- The next drop: that there is one, and that nothing grows by it.
-use Rattle.std.proofs.Common.{◌≡◌, ℕ, suc, ◌+◌, ◌<◌, ◌≤◌, Bool, true, false, List, [], ◌∷◌, ◌++◌, length, Option, Some, None, refl, ap, sym, ◌∙◌, arith, inl, inr}
+use Rattle.std.proofs.Common.{◌≡◌, ℕ, ◌+◌, ◌<◌, ◌≤◌, Bool, true, false, List, [], ◌∷◌, ◌++◌, length, Option, Some, None, refl, ap, sym, ◌∙◌, arith, inl, inr}
 use Rattle.std.specs.Prelude.{IsSomeAnd, if◌then◌else◌, nat_lt, nat_le}
-use Rattle.std.specs.List.{AllByRecursion}
 use Rattle.std.proofs.lemmas.Bool.{cases_Bool, ltb-false, ltb-true}
 use Rattle.std.proofs.lemmas.List.{append-nil, length-append}
 use Rattle.mc_packet.specs.declared.packet.Packet.{Packet}
@@ -12,13 +11,13 @@ use Rattle.mc_packet.specs.declared.choice.Kind.TheVariants.{Video, Audio, Sub}
 use Rattle.mc_packet.specs.declared.walk.Mark.{Mark}
 use Rattle.mc_journal.specs.Films.{rank}
 use Rattle.mc_queue.specs.Places.{Rise, place, weights, from_place}
-use Rattle.mc_queue.specs.Queue.{QueueState, IsQueue, DropsTo, first_of}
+use Rattle.mc_queue.specs.Queue.{QueueState, first_of}
 use Rattle.mc_queue.proofs.Rising.{all_from, less_weight_from}
 use Rattle.mc_range.specs.declared.cutting.Cut.{Cut}
 use Rattle.mc_range.specs.declared.queues.Queues.{Queues}
 use Rattle.mc_range.specs.Range.{RangeState, IsRange, QueueIn, count, weight_in as weight_of_queue}
 use Rattle.mc_range.specs.Tracks.{queue_under, with_queue}
-use Rattle.mc_range.specs.Cutting.{Cuts, CutsOne, IsCut, bound_under, cut_at, cuttable, earlier_victim, first_cuttable, head_under, victim, victim_in, victim_under, weight_ahead, weight_from}
+use Rattle.mc_range.specs.Cutting.{Cuts, CutsOne, IsCut, bound_under, cut_at, cuttable, earlier_victim, first_cuttable, victim, victim_in, victim_under, weight_ahead, weight_from}
 use Rattle.mc_cache.specs.Cache.{holds, in_front, weight_in, weight_of}
 use Rattle.mc_cache.specs.Pruning.{CutsLast, CutsRange}
 

@@ -1,15 +1,13 @@
 -- Room in the queues of a range, and that it stays.
-use Rattle.std.proofs.Common.{◌≡◌, ℕ, zero, suc, ◌+◌, ◌*◌, ◌^◌, ◌<◌, ◌≤◌, Bool, true, false, List, [], ◌∷◌, length, take, get_or, Option, Some, None, refl, ap, sym, ◌∙◌, arith, inl, inr}
-use Rattle.std.specs.Prelude.{IfSome, IsSomeAnd}
+use Rattle.std.proofs.Common.{◌≡◌, ℕ, zero, suc, ◌+◌, ◌^◌, ◌<◌, ◌≤◌, true, false, List, [], ◌∷◌, length, take, get_or, Option, Some, None, refl, ap, ◌∙◌, arith, inl, inr}
+use Rattle.std.specs.Prelude.{IfSome}
 use Rattle.std.proofs.lemmas.Bool.{cases_Bool}
-use Rattle.mc_packet.specs.declared.choice.Choice.{Choice}
 use Rattle.mc_journal.specs.Choices.{or_else}
 use Rattle.mc_queue.specs.Queue.{QueueState, with_spare}
 use Rattle.mc_range.specs.declared.queues.Queues.{Queues}
 use Rattle.mc_range.specs.Range.{RangeState, AreRoomier, IsRoomier, Roomier, count, is_of, own, queue_of}
-use Rattle.mc_range.specs.Tracks.{count_of_all}
-use Rattle.mc_cache.specs.Cache.{count_in, count_of, in_front, weight_in, weight_of}
-use Rattle.mc_cache.specs.Rooms.{HasRoomFor, HasSpare, HasSpareFor, count_at, count_at_all}
+use Rattle.mc_cache.specs.Cache.{count_in, count_of, in_front, weight_of}
+use Rattle.mc_cache.specs.Rooms.{HasRoomFor, HasSpareFor, count_at, count_at_all}
 use Rattle.mc_cache.proofs.Lists.{ranges_weigh}
 
 -- ---- numbers

@@ -1,5 +1,5 @@
 -- Over a film's list the ranges of a cache are those that the records of its calls leave.
-use Rattle.std.proofs.Common.{◌≡◌, ℕ, zero, suc, ◌+◌, ◌<◌, ◌≤◌, Bool, true, false, ◌&&◌, List, [], ◌∷◌, length, take, Option, Some, None, ℤ, refl, ap, sym, ◌∙◌, arith, inl, inr}
+use Rattle.std.proofs.Common.{◌≡◌, ℕ, zero, suc, ◌+◌, Bool, true, false, ◌&&◌, List, [], ◌∷◌, length, take, Option, Some, None, ℤ, refl, ap, sym, ◌∙◌, arith, inl, inr}
 use Rattle.std.specs.Prelude.{IfSome, IsSomeAnd, if◌then◌else◌, is_some, map, nat_lt, not}
 use Rattle.std.specs.List.{AllByRecursion, filter, find}
 use Rattle.std.specs.Option.{option_map, option_map_or}
@@ -10,17 +10,15 @@ use Rattle.mc_packet.specs.declared.choice.Dir.{Dir}
 use Rattle.mc_packet.specs.declared.choice.Starts.{Starts}
 use Rattle.mc_packet.specs.declared.packet.Packet.{Packet}
 use Rattle.mc_packet.specs.declared.walk.Chunk.{Chunk}
-use Rattle.mc_packet.specs.declared.walk.Mark.{Mark}
 use Rattle.mc_journal.specs.declared.record.Removal.{Removal}
 use Rattle.mc_journal.specs.Told.{Told, told}
 use Rattle.mc_journal.specs.Choices.{is_distinct, is_empty, passes}
 use Rattle.mc_journal.specs.Films.{IsRising, first}
 use Rattle.mc_journal.specs.Ranges.{Range, held, serves as film_serves}
 use Rattle.mc_journal.specs.Stands.{Stand, chosen, fed, fed_range, first_that, found_with, holds_any, keep_tracks, left, new_range, switched, ranges_of as stand_ranges, tidied, without_first as stand_without}
-use Rattle.mc_range.specs.declared.queues.Queues.{Queues}
 use Rattle.mc_queue.specs.Queue.{QueueState}
 use Rattle.mc_range.specs.Range.{RangeState, IsBegun, IsRange, QueueIn, as_range, count, queue_of}
-use Rattle.mc_range.specs.Serving.{HoldsFilm, packets_in}
+use Rattle.mc_range.specs.Serving.{HoldsFilm}
 use Rattle.mc_range.specs.Growing.{IsFed}
 use Rattle.mc_range.specs.Filmed.{IsPart, same_kinds}
 use Rattle.mc_range.proofs.Films.{film_served}
@@ -36,7 +34,7 @@ use Rattle.mc_cache.proofs.Lists.{all_held}
 
 -- ---- lists of ranges
 
-front_same : (c : Option RangeState) (rs : List RangeState) → option_map_or (λ r. r ∷ map as_range rs) (option_map as_range c) (map as_range rs) ≡ map as_range (in_front c rs)
+pub front_same : (c : Option RangeState) (rs : List RangeState) → option_map_or (λ r. r ∷ map as_range rs) (option_map as_range c) (map as_range rs) ≡ map as_range (in_front c rs)
 front_same None rs = refl
 front_same (Some r) rs = refl
 
@@ -61,7 +59,7 @@ all_taken P zero rs a = tt
 all_taken P (suc n) [] a = tt
 all_taken P (suc n) (r ∷ rs) a = (a.0, all_taken P n rs a.1)
 
-map_taken : (n : ℕ) (rs : List RangeState) → map as_range (take n rs) ≡ take n (map as_range rs)
+pub map_taken : (n : ℕ) (rs : List RangeState) → map as_range (take n rs) ≡ take n (map as_range rs)
 map_taken zero rs = refl
 map_taken (suc n) [] = refl
 map_taken (suc n) (r ∷ rs) = ap (λ xs. as_range r ∷ xs) (map_taken n rs)
@@ -86,7 +84,7 @@ without_same test seen (r ∷ rs) a = elim (cases_Bool (test r)) [
   | inr n ↦ let z : seen (as_range r) ≡ false = sym a.0 ∙ n in rw (n, z) (ap (λ xs. as_range r ∷ xs) (without_same test seen rs a.1))
 ]
 
-filter_same : (test : RangeState → Bool) (seen : Range → Bool) (rs : List RangeState) → AllByRecursion (λ r. test r ≡ seen (as_range r)) rs
+pub filter_same : (test : RangeState → Bool) (seen : Range → Bool) (rs : List RangeState) → AllByRecursion (λ r. test r ≡ seen (as_range r)) rs
     → filter seen (map as_range rs) ≡ map as_range (filter test rs)
 filter_same test seen [] a = refl
 filter_same test seen (r ∷ rs) a = elim (cases_Bool (test r)) [
@@ -141,7 +139,7 @@ pub pair_all : (ps : List Told) (set : Choice) (rs : List RangeState) → AllByR
 pair_all ps set [] a b = tt
 pair_all ps set (r ∷ rs) a b = (record { range = a.0.range; film = b.0 }, pair_all ps set rs a.1 b.1)
 
-all_of : (ps : List Told) (set : Choice) (st : CacheState) → IsCache st → HoldsAll ps set st → AllByRecursion (Held ps set) (ranges_of st)
+pub all_of : (ps : List Told) (set : Choice) (st : CacheState) → IsCache st → HoldsAll ps set st → AllByRecursion (Held ps set) (ranges_of st)
 all_of ps set st i h = front st.current i.current h.current
   where
     front : (c : Option RangeState) → IfSome c IsRange → IfSome c (HoldsIn ps set) → AllByRecursion (Held ps set) (in_front c st.others)
@@ -157,7 +155,7 @@ left_kept (Some r) rs a = elim (cases_Bool (holds r)) [
   | inr n ↦ rw n (sym (all_held rs a))
 ]
 
-stand_is : (c d : Option Range) (rs qs : List Range) → c ≡ d → rs ≡ qs → (let s : Stand = record { current = c; others = rs } in s) ≡ (let s : Stand = record { current = d; others = qs } in s)
+pub stand_is : (c d : Option Range) (rs qs : List Range) → c ≡ d → rs ≡ qs → (let s : Stand = record { current = c; others = rs } in s) ≡ (let s : Stand = record { current = d; others = qs } in s)
 stand_is c d rs qs e f = rw (e, f) refl
 
 pub left_stand : (ps : List Told) (set : Choice) (old new : CacheState) → IsCache old → HoldsAll ps set old → IsLeft old new → stand_of new ≡ tidied ps set (left (stand_of old))

@@ -1,21 +1,20 @@
 -- What is told of a range's queues, and that it stands by rising track.
-use Rattle.std.proofs.Common.{◌≡◌, ℕ, zero, suc, ◌+◌, ◌==◌, ◌<◌, ◌≤◌, Bool, true, false, List, [], ◌∷◌, ◌++◌, length, take, get_or, Option, Some, None, refl, ap, sym, ◌∙◌, arith, inl, inr}
+use Rattle.std.proofs.Common.{◌≡◌, ℕ, zero, suc, ◌+◌, ◌==◌, ◌<◌, true, false, List, [], ◌∷◌, ◌++◌, length, take, get_or, Option, Some, None, refl, ap, sym, ◌∙◌, arith, inl, inr}
 use Rattle.std.specs.Prelude.{if◌then◌else◌, nat_le, option_to_list}
-use Rattle.std.proofs.lemmas.Bool.{cases_Bool, leb-true, leb-false, le-leb, ne_eqb}
+use Rattle.std.proofs.lemmas.Bool.{cases_Bool, leb-false, le-leb, ne_eqb}
 use Rattle.std.proofs.lemmas.List.{append_assoc, append-nil}
 use Rattle.mc_packet.specs.declared.choice.Choice.{Choice}
 use Rattle.mc_packet.specs.declared.packet.Packet.{Packet}
-use Rattle.mc_packet.specs.declared.packet.Pos.{Pos}
 use Rattle.mc_packet.specs.declared.walk.Mark.{Mark}
 use Rattle.mc_journal.specs.declared.record.Cause.{Cause}
 use Rattle.mc_journal.specs.declared.record.Removal.{Removal}
 use Rattle.mc_journal.specs.Choices.{is_track, nothing}
 use Rattle.mc_queue.specs.Queue.{QueueState}
 use Rattle.mc_range.specs.declared.queues.Queues.{Queues}
-use Rattle.mc_range.specs.Range.{RangeState, IsRange, QueueIn, count, queue_of}
-use Rattle.mc_range.specs.Tracks.{interval_of, intervals}
+use Rattle.mc_range.specs.Range.{RangeState, IsRange, QueueIn, queue_of}
+use Rattle.mc_range.specs.Tracks.{interval_of}
 use Rattle.mc_range.proofs.Unions.{video_is, audio_is, sub_is}
-use Rattle.mc_cache.specs.Removals.{lost_queue, lost_queues, ordered, put_in, put_all, removal_if, removal_in, removals_in, removals_of, removals_of_all, told_if, told_in}
+use Rattle.mc_cache.specs.Removals.{lost_queue, lost_queues, ordered, put_all, removal_if, removal_in, removals_in, removals_of, removals_of_all, told_if}
 
 -- ---- three by rising track
 

@@ -1,8 +1,8 @@
 -- A join within its room: it can't be refused, and what it leaves.
-use Rattle.std.proofs.Common.{◌≡◌, ℕ, zero, suc, ◌+◌, ◌*◌, ◌^◌, ◌<◌, ◌≤◌, Bool, true, false, ◌||◌, List, [], ◌∷◌, ◌++◌, length, Option, Some, None, refl, ap, sym, ◌∙◌, arith, inl, inr}
-use Rattle.std.specs.Prelude.{IfSome, IsSomeAnd, if◌then◌else◌, nat_le, nat_lt}
+use Rattle.std.proofs.Common.{◌≡◌, ℕ, ◌+◌, ◌≤◌, Bool, true, false, ◌||◌, List, [], ◌∷◌, ◌++◌, length, Option, Some, None, refl, ap, sym, ◌∙◌, arith, inl, inr}
+use Rattle.std.specs.Prelude.{IfSome, if◌then◌else◌}
 use Rattle.std.specs.List.{find}
-use Rattle.std.proofs.lemmas.Bool.{cases_Bool, leb-true, leb-false, ltb-true, ltb-false, le-ltb, and_parts}
+use Rattle.std.proofs.lemmas.Bool.{cases_Bool, leb-true, ltb-true, le-ltb, and_parts}
 use Rattle.std.proofs.lemmas.List.Sums.{sum_by-cons}
 use Rattle.mc_packet.specs.declared.choice.Choice.{Choice}
 use Rattle.mc_packet.specs.declared.packet.Packet.{Packet}
@@ -15,13 +15,12 @@ use Rattle.mc_queue.specs.Places.{Rise, before, from_place, is_before, is_from, 
 use Rattle.mc_queue.specs.Queue.{QueueState, IsQueue}
 use Rattle.mc_queue.specs.Union.{added, united, in_front, behind_all}
 use Rattle.mc_queue.proofs.Rising.{weights_of_two}
-use Rattle.mc_range.specs.declared.queues.Queues.{Queues}
 use Rattle.mc_range.specs.Range.{RangeState, QueueIn, IsRange, IsRoomier, Roomier, as_range, count, is_same, is_same_set, meets_range, queue_of, weight_in as weight_of_queue}
-use Rattle.mc_range.specs.Joining.{IsJoined, IsUnion, JoinRefused, UnitesIn, lacks_any, lacks_for}
+use Rattle.mc_range.specs.Joining.{IsJoined, JoinRefused, UnitesIn, lacks_for}
 use Rattle.mc_range.proofs.Unions.{video_is, audio_is, sub_is, same_some}
-use Rattle.mc_cache.specs.Cache.{IsOther, weight_in, without_first}
+use Rattle.mc_cache.specs.Cache.{weight_in, without_first}
 use Rattle.mc_cache.specs.Joining.{Joins, JoinsOne, neighbour, others_left, parted, united as joins_united}
-use Rattle.mc_cache.specs.Rooms.{HasRoomFor, HasSpareFor, count_at, count_at_all}
+use Rattle.mc_cache.specs.Rooms.{HasRoomFor, HasSpareFor, count_at_all}
 
 -- ---- what one takes from the other
 

@@ -1,5 +1,5 @@
 -- The ranges of a cache after each of its calls.
-use Rattle.std.specs.Prelude.{◌≡◌, ◌≤◌, ◌<◌, ℕ, ◌+◌, List, [], ◌∷◌, take, drop, Option, Some, None, option_map, Result, Ok, Err, if◌then◌else◌, ℤ, is_some, Bool, IfSome, IsSomeAnd, ◌++◌}
+use Rattle.std.specs.Prelude.{◌≡◌, ◌≤◌, ℕ, List, [], take, drop, Option, Some, None, option_map, if◌then◌else◌, ℤ, is_some, Bool, IsSomeAnd, ◌++◌}
 use Rattle.std.specs.List.{filter, find}
 use Rattle.mc_packet.specs.declared.cache.Heads.{Heads}
 use Rattle.mc_packet.specs.declared.cache.Limits.{Limits}

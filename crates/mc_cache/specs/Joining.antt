@@ -1,11 +1,10 @@
 -- The joins of the current range with the others that touch it, one by one, in order of last use.
-use Rattle.std.specs.Prelude.{◌≡◌, ◌≤◌, ◌<◌, ℕ, ◌+◌, Bool, true, false, List, [], ◌∷◌, ◌++◌, Option, Some, None, ℤ, IsSomeAnd}
+use Rattle.std.specs.Prelude.{◌≡◌, ℕ, ◌+◌, Bool, true, false, List, [], ◌++◌, Option, Some, None, ℤ}
 use Rattle.std.specs.List.{find}
 use Rattle.mc_packet.specs.declared.packet.Pos.{Pos}
 use Rattle.mc_journal.specs.declared.record.Cause.TheVariants.{Mismatch}
 use Rattle.mc_journal.specs.declared.record.Removal.{Removal}
-use Rattle.mc_queue.specs.declared.queue.UnionError.{UnionError}
-use Rattle.mc_queue.specs.declared.queue.UnionError.TheVariants.{Mismatch as Differ, NoMemory}
+use Rattle.mc_queue.specs.declared.queue.UnionError.TheVariants.{Mismatch as Differ}
 use Rattle.mc_range.specs.Range.{RangeState, IsRange, IsRoomier, meets_range}
 use Rattle.mc_range.specs.Joining.{IsJoined, JoinRefused}
 use Rattle.mc_cache.specs.Cache.{CacheState, without_first}

@@ -6,6 +6,7 @@ pub mod Joining
 pub mod Pruning
 pub mod Shown
 pub mod Filmed
+pub mod Placed
 pub use Rattle.mc_range.specs.Range
 pub use Rattle.mc_range.specs.Growing
 pub use Rattle.mc_range.specs.Serving

@@ -1,18 +1,15 @@
 -- The room within which the calls of a cache can't be refused.
-use Rattle.std.specs.Prelude.{◌≡◌, ◌≤◌, ◌<◌, ℕ, ◌+◌, Bool, true, false, ◌&&◌, if◌then◌else◌, List, [], ◌∷◌, length, Option, Some, None, IfSome, IsSomeAnd}
-use Rattle.std.specs.Option.{option_map}
+use Rattle.std.specs.Prelude.{◌≡◌, ◌≤◌, ℕ, ◌+◌, Bool, true, false, ◌&&◌, List, [], ◌∷◌, length, Option, Some, None, IfSome, IsSomeAnd}
 use Rattle.std.specs.List.{list_any}
 use Rattle.mc_packet.specs.declared.cache.Spans.{Spans}
 use Rattle.mc_packet.specs.declared.choice.Choice.{Choice}
 use Rattle.mc_packet.specs.declared.choice.Starts.{Starts}
 use Rattle.mc_packet.specs.declared.packet.Pos.{Pos}
 use Rattle.mc_packet.specs.declared.walk.Chunk.{Chunk}
-use Rattle.mc_packet.specs.declared.walk.Mark.{Mark}
 use Rattle.mc_queue.specs.Union.{later}
 use Rattle.mc_range.specs.declared.queues.Queues.{Queues}
 use Rattle.mc_range.specs.Range.{RangeState, count, is_same_set, meets_range, place_at, queue_of}
 use Rattle.mc_range.specs.Tracks.{intervals, spans_touch}
-use Rattle.mc_cache.specs.declared.prepared.Prepared.{Prepared}
 use Rattle.mc_cache.specs.Cache.{CacheState, ranges_of}
 
 -- ---- room in the queues of a range

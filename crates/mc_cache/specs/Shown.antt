@@ -1,5 +1,5 @@
 -- What a look at the cache shows.
-use Rattle.std.specs.Prelude.{ℕ, ◌==◌, Bool, true, false, ◌&&◌, List, map, Option, Some, None}
+use Rattle.std.specs.Prelude.{ℕ, ◌==◌, Bool, true, false, ◌&&◌, map, Option, Some, None}
 use Rattle.mc_packet.specs.declared.packet.Pos.{Pos}
 use Rattle.mc_packet.specs.declared.cache.CacheView.{CacheView}
 use Rattle.mc_packet.specs.declared.cache.Heads.{Heads}

@@ -12,6 +12,7 @@ ghost use Rattle.mc_journal.specs.declared.record.Cause.TheVariants.{TooMany};
 ghost use Rattle.mc_cache.specs.Joining.{IsJoinedUp};
 ghost use Rattle.mc_cache.specs.Pruning.{Prunes, ahead_in, back_of};
 ghost use Rattle.mc_cache.specs.Shown.{view_of};
+ghost use Rattle.mc_cache.specs.Placed.{AllFramed};
 ghost use Rattle.mc_cache.specs.Removals.{removals_of_all};
 ghost use Rattle.mc_cache.specs.Rooms.{HasRoomFor, HasRoomToFeed, HasRoomToJoin, HasRoomToStart, IsPrepared};
 ghost use Rattle.mc_cache.specs.Changing.{AddsTrack, Feeds, IsChosen, IsLeft, IsNew, IsRetracked, IsOnlyRoomier, IsSameButRoom, IsStarted, KeepsNine, MayAdd, heads_in, server, serves};
@@ -272,6 +273,18 @@ impl Cache {
         count_in(&self.current) + count_all(self.others.as_slice())
     }
 
+    /// The number of its ranges, the current one too. It takes no memory.
+    pub fn len(&self) -> usize
+        ensures value { result ≡ length (ranges_of self.now) }
+        ensures few { result ≤ 10 }
+        ensures cache { IsCache self.now }
+    {
+        match &self.current {
+            Some(_) => 1 + self.others.len(),
+            None => self.others.len(),
+        }
+    }
+
     // ---- starts
 
     #[tactic(auto, using(crate::proofs::Lists::others_few))]
@@ -508,8 +521,10 @@ impl Cache {
     /// What the cache tells of itself: its ranges in order of last use with the times between which
     /// they serve, the octets ahead of these heads and behind them, and whether the current range begins
     /// where the film does. Its `time` is none, and `playing` and `ended` are false.
+    #[tactic(auto, using(crate::proofs::Shows::framed_ranges))]
     pub fn view(&self, heads: &Heads) -> Result<CacheView, NoMemory>
         ensures value { IfOk result (λ v. v ≡ view_of heads.now self.now) }
+        ensures frames { IfOk result (λ v. AllFramed self.now) }
         ensures cache { IsCache self.now }
     {
         Ok(CacheView {

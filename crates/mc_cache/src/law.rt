@@ -1,24 +1,34 @@
 //! What the calls of a cache mean for the film: over every list of a film's packets of which each
 //! range holds, of each track, exactly those in its span, the ranges after a call are those that the
 //! record of it leaves by the rules of `mc_journal`, and they hold the film's packets again.
-ghost use Rattle.std.specs.Prelude.{◌≡◌, ℕ, None, true, List, ℤ, IsSomeAnd, option_map};
+ghost use Rattle.std.specs.Prelude.{◌≡◌, ℕ, None, true, List, ℤ, IsSomeAnd, option_map, IfSome, is_some, drop, map, ◌∷◌, ◌-◌, sum_by};
+ghost use Rattle.std.specs.List.{AllByRecursion};
 ghost use Rattle.mc_packet.specs.declared.choice.Choice.{Choice};
 ghost use Rattle.mc_packet.specs.declared.choice.Dir.{Dir};
 ghost use Rattle.mc_packet.specs.declared.choice.Starts.{Starts};
 ghost use Rattle.mc_packet.specs.declared.walk.Chunk.{Chunk};
+ghost use Rattle.mc_packet.specs.declared.cache.Heads.{Heads};
+ghost use Rattle.mc_packet.specs.declared.choice.Kind.{Kind};
+ghost use Rattle.mc_packet.specs.declared.walk.Mark.{Mark};
 ghost use Rattle.mc_journal.specs.declared.record.Removal.{Removal};
 ghost use Rattle.mc_journal.specs.Told.{Told};
-ghost use Rattle.mc_journal.specs.Choices.{is_distinct};
-ghost use Rattle.mc_journal.specs.Films.{IsRising};
+ghost use Rattle.mc_journal.specs.Choices.{is_distinct, or_else};
+ghost use Rattle.mc_journal.specs.Films.{IsRising, rank};
 ghost use Rattle.mc_journal.specs.Ranges.{serves};
-ghost use Rattle.mc_journal.specs.Stands.{chosen, fed, first_that, found_with, left, ranges_of, switched, tidied};
+ghost use Rattle.mc_journal.specs.Stands.{chosen, fed, first_that, found_with, left, ranges_of, switched, tidied, found, dropped};
+ghost use Rattle.mc_journal.specs.Used.{Due, IsDue, due_found, due_switch, CutsIn};
+ghost use Rattle.mc_journal.specs.Views.{forward_in, range_shown, range_weight};
+ghost use Rattle.mc_journal.specs.Allowed.{MayCut};
 ghost use Rattle.mc_range.specs.Range.{IsRange, RangeState, as_range};
-ghost use Rattle.mc_range.specs.Filmed.{IsPart, same_kinds};
+ghost use Rattle.mc_range.specs.Filmed.{IsPart, same_kinds, start_only};
 ghost use Rattle.mc_cache.specs.Cache.{CacheState, IsCache, IsOther, stand_of};
-ghost use Rattle.mc_cache.specs.Changing.{Feeds, IsChosen, IsLeft, IsRetracked, IsStarted, server};
-ghost use Rattle.std.specs.List.{AllByRecursion};
+ghost use Rattle.mc_cache.specs.Changing.{AddsTrack, Feeds, IsChosen, IsLeft, IsOnlyRoomier, IsRetracked, IsSameButRoom, IsStarted, MayAdd, server};
 ghost use Rattle.mc_cache.specs.Joining.{Joins};
 ghost use Rattle.mc_cache.specs.Filmed.{HoldsAll, HoldsIn, JoinsFilm};
+ghost use Rattle.mc_cache.specs.Placed.{AddsStarts, AllFramed, HeadsAt, due_of};
+ghost use Rattle.mc_cache.specs.Shown.{view_of};
+ghost use Rattle.mc_cache.specs.Pruning.{Drops};
+ghost use Rattle.mc_journal.specs.Views as views;
 
 /// The range that a seek makes current is the first that serves it, as the rule over the film's list
 /// says, and the others stay in their order.
@@ -62,4 +72,60 @@ pub fn switched_films()
 /// many joins leave, each where another range touches the current one.
 pub fn joined_films()
     ensures { (ps : List Told) (set : Choice) (first : RangeState) (beside : List RangeState) (r : RangeState) (rs : List RangeState) (n : ℕ) (drops : List Removal) → IsRising ps → IsRange first → HoldsIn ps set first → AllByRecursion IsOther beside → AllByRecursion (HoldsIn ps set) beside → Joins first beside r rs n drops → JoinsFilm ps set first beside r rs n drops }
+{}
+
+/// Making room changes nothing of the ranges, and each head stays where it was.
+#[tactic(auto, using(crate::proofs::Roomy::room_stand, crate::proofs::Roomy::room_film, crate::proofs::Roomy::room_heads, crate::proofs::Roomy::roomier_stand, crate::proofs::Roomy::roomier_film))]
+pub fn roomy_films()
+    ensures stand { (old new : CacheState) → IsSameButRoom old new → stand_of new ≡ stand_of old }
+    ensures film { (ps : List Told) (set : Choice) (old new : CacheState) → IsSameButRoom old new → HoldsAll ps set old → HoldsAll ps set new }
+    ensures heads { (set : Choice) (heads : Heads) (place : ℕ → ℕ) (old new : CacheState) → IsSameButRoom old new → IfSome old.current (HeadsAt set heads place) → IfSome new.current (HeadsAt set heads place) }
+    ensures only_stand { (old new : CacheState) → IsOnlyRoomier old new → stand_of new ≡ stand_of old }
+    ensures only_film { (ps : List Told) (set : Choice) (old new : CacheState) → IsOnlyRoomier old new → HoldsAll ps set old → HoldsAll ps set new }
+{}
+
+/// A track that is added to the current range has the empty span of its start there, and the tracks
+/// that are added one kind behind the other are those of the starts that were found.
+#[tactic(auto, using(crate::proofs::Added::added_stand, crate::proofs::Added::added_holds, crate::proofs::Added::starts_stand, crate::proofs::Added::starts_holds))]
+pub fn added_films()
+    ensures stand { (ps : List Told) (set : Choice) (kind : Kind) (track start : ℕ) (mark : Mark) (old new : CacheState) → IsCache old → IsCache new → HoldsAll ps set old → MayAdd kind track old → AddsTrack kind track start mark old new → stand_of new ≡ found set (start_only kind start mark) (stand_of old) }
+    ensures film { (ps : List Told) (set : Choice) (kind : Kind) (track start : ℕ) (mark : Mark) (old new : CacheState) → IsCache new → HoldsAll ps set old → MayAdd kind track old → AddsTrack kind track start mark old new → HoldsAll ps set new }
+    ensures all_stand { (ps : List Told) (set : Choice) (starts : Starts) (old new : CacheState) → IsCache old → HoldsAll ps set old → is_some (or_else starts.video (or_else starts.audio starts.sub)) ≡ true → AddsStarts set starts old new → stand_of new ≡ found set starts (stand_of old) }
+    ensures all_film { (ps : List Told) (set : Choice) (starts : Starts) (old new : CacheState) → IsCache old → HoldsAll ps set old → AddsStarts set starts old new → HoldsAll ps set new }
+{}
+
+/// What a start and a selection tell are the drops that are then due, in their order: the first of
+/// them is the next that is due, and the others stand behind it.
+#[tactic(auto, using(crate::proofs::FilmTold::started_told, crate::proofs::FilmTold::retracked_told, crate::proofs::FilmTold::told_next))]
+pub fn told_films()
+    ensures start { (ps : List Told) (set : Choice) (starts : Starts) (drops : List Removal) (old new : CacheState) → IsCache old → HoldsAll ps set old → old.current ≡ None → IsStarted set starts drops old new → map due_of drops ≡ due_found ps set (stand_of old) }
+    ensures switch { (ps : List Told) (set next : Choice) (drops : List Removal) (old new : CacheState) → IsCache old → HoldsAll ps set old → same_kinds set next ≡ true → IsRetracked next drops old new → map due_of drops ≡ due_switch ps set next (stand_of old) }
+    ensures next { (m : Removal) (ms : List Removal) (ds : List Due) → map due_of (m ∷ ms) ≡ ds → IsDue ds m.track (rank m.from) (rank m.to) m.cause × (map due_of ms ≡ drop 1 ds) }
+{}
+
+/// What a look at the cache shows is what the rules show of its ranges: each range's bounds and
+/// spans, the octets ahead of the heads and behind them, and the current range's beginning and ending.
+#[tactic(auto, using(crate::proofs::Viewed::ranges_shown, crate::proofs::Viewed::forward_shown, crate::proofs::Viewed::back_shown, crate::proofs::Viewed::bof_shown, crate::proofs::Viewed::ending_shown))]
+pub fn viewed_films()
+    ensures ranges { (ps : List Told) (set : Choice) (heads : Heads) (st : CacheState) → IsCache st → HoldsAll ps set st → AllFramed st → (view_of heads st).ranges ≡ map (range_shown ps set) (ranges_of (stand_of st)) }
+    ensures forward { (ps : List Told) (set : Choice) (heads : Heads) (place : ℕ → ℕ) (st : CacheState) → IsCache st → HoldsAll ps set st → IfSome st.current (HeadsAt set heads place) → (view_of heads st).forward ≡ forward_in ps set place (stand_of st).current }
+    ensures back { (ps : List Told) (set : Choice) (heads : Heads) (place : ℕ → ℕ) (st : CacheState) → IsCache st → HoldsAll ps set st → IfSome st.current (HeadsAt set heads place) → (view_of heads st).back ≡ sum_by (range_weight ps set) (ranges_of (stand_of st)) - forward_in ps set place (stand_of st).current }
+    ensures bof { (ps : List Told) (set : Choice) (heads : Heads) (st : CacheState) → IsCache st → HoldsAll ps set st → (view_of heads st).bof ≡ views.begins_in set (stand_of st).current }
+    ensures ending { (heads : Heads) (st : CacheState) → (view_of heads st).ending ≡ views.ending_in (stand_of st).current }
+{}
+
+/// No other range is without a packet, so that none goes for that.
+#[tactic(auto, using(crate::proofs::Viewed::tidy))]
+pub fn tidy_films()
+    ensures { (ps : List Told) (set : Choice) (st : CacheState) → IsCache st → HoldsAll ps set st → tidied ps set (stand_of st) ≡ stand_of st }
+{}
+
+/// A drop that the limit asks for is the cut of the rule, of no packet at a head or behind it; the
+/// ranges are those that its record leaves, and each head stays where it was.
+pub fn pruned_films()
+    ensures stand { (ps : List Told) (set : Choice) (heads : Heads) (m : Removal) (old new : CacheState) → IsCache old → HoldsAll ps set old → Drops heads m old new → stand_of new ≡ tidied ps set (dropped m.track (rank m.to) m.cause (stand_of old)) }
+    ensures film { (ps : List Told) (set : Choice) (heads : Heads) (m : Removal) (old new : CacheState) → IsCache old → HoldsAll ps set old → Drops heads m old new → HoldsAll ps set new }
+    ensures cut { (ps : List Told) (set : Choice) (heads : Heads) (place : ℕ → ℕ) (m : Removal) (old new : CacheState) → IsCache old → HoldsAll ps set old → IfSome old.current (HeadsAt set heads place) → Drops heads m old new → CutsIn ps set place m.track (rank m.from) (rank m.to) (stand_of old).current (stand_of old).others }
+    ensures may { (ps : List Told) (set : Choice) (heads : Heads) (place : ℕ → ℕ) (m : Removal) (old new : CacheState) → IsCache old → HoldsAll ps set old → IfSome old.current (HeadsAt set heads place) → Drops heads m old new → MayCut m.track (rank m.from) (rank m.to) (place m.track) (stand_of old).current (stand_of old).others }
+    ensures heads { (ps : List Told) (set : Choice) (heads : Heads) (place : ℕ → ℕ) (m : Removal) (old new : CacheState) → IsCache old → HoldsAll ps set old → IfSome old.current (HeadsAt set heads place) → Drops heads m old new → IfSome new.current (HeadsAt set heads place) }
 {}

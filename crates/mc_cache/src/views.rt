@@ -1,5 +1,7 @@
+ghost use Rattle.std.specs.List.{AllByRecursion};
 ghost use Rattle.std.specs.Prelude.{◌≡◌, ◌++◌, ◌==◌, [], map, IfOk, OnOk};
 ghost use Rattle.mc_journal.specs.Films.{rank};
+ghost use Rattle.mc_range.specs.Filmed.{HaveFrames};
 ghost use Rattle.mc_cache.specs.Cache.{in_front};
 ghost use Rattle.mc_cache.specs.Shown.{begins, begins_at, begins_in, shown};
 
@@ -45,7 +47,8 @@ pub(crate) fn begins_in(range: &Option<Range>) -> bool
 }
 
 fn show(range: &Range) -> RangeView
-    ensures { result ≡ shown range.now }
+    ensures value { result ≡ shown range.now }
+    ensures frames { HaveFrames result.spans }
 {
     RangeView {
         bounds: range.bounds(),
@@ -54,7 +57,8 @@ fn show(range: &Range) -> RangeView
 }
 
 fn show_front(alloc: Global, range: &Option<Range>) -> Result<RangeViews, NoMemory>
-    ensures { IfOk result (λ vs. vs ≡ map shown (in_front range.now [])) }
+    ensures value { IfOk result (λ vs. vs ≡ map shown (in_front range.now [])) }
+    ensures frames { IfOk result (AllByRecursion (λ v. HaveFrames v.spans)) }
 {
     let mut views = RangeViews::new(alloc);
     if let Some(range) = range {
@@ -64,13 +68,14 @@ fn show_front(alloc: Global, range: &Option<Range>) -> Result<RangeViews, NoMemo
 }
 
 /// Each range, the current one first.
-#[tactic(auto, using(crate::proofs::Shows::front_shown))]
+#[tactic(auto, using(crate::proofs::Shows::front_shown, crate::proofs::Shows::framed_more))]
 pub(crate) fn show_all(
     alloc: Global,
     range: &Option<Range>,
     others: &[Range],
 ) -> Result<RangeViews, NoMemory>
-    ensures { IfOk result (λ vs. vs ≡ map shown (in_front range.now others.now)) }
+    ensures value { IfOk result (λ vs. vs ≡ map shown (in_front range.now others.now)) }
+    ensures frames { IfOk result (AllByRecursion (λ v. HaveFrames v.spans)) }
 {
     let mut views = show_front(alloc, range)?;
     for other in others {

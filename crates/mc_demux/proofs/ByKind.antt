@@ -34,7 +34,7 @@ other_back (Some m) (Some n) k o e = elim (cases_Bool (m == k)) [
   | inr z ↦ z
 ]
 
-own_other : (t : Option ℕ) (m : Mark) (o : Option QueueState) (k : ℕ) → QueueIn t m o → is_track t k ≡ false → own k o ≡ None
+pub own_other : (t : Option ℕ) (m : Mark) (o : Option QueueState) (k : ℕ) → QueueIn t m o → is_track t k ≡ false → own k o ≡ None
 own_other t m None k i e = refl
 own_other t m (Some q) k i e = let f : (q.track == k) ≡ false = subst (λ (x : Option ℕ). is_track x k ≡ false) i.0 e in rw f refl
 

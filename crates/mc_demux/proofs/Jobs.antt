@@ -83,6 +83,7 @@ keep_demux d job i e room = record {
   cache = i.cache;
   limits = i.limits;
   distinct = i.distinct;
+  known = i.known;
   sets = i.sets;
   placed = i.placed;
   numbered = i.numbered;

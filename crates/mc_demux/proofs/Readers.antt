@@ -103,6 +103,7 @@ gives_is old by own heads ended c j spare i p a t ic w r =
       cache = ic;
       limits = subst (λ (l : Limits). AreLimits l) (sym lim) i.limits;
       distinct = i.distinct;
+      known = i.known;
       sets = d.sets i.sets;
       placed = d.placed p;
       numbered = omega arith;

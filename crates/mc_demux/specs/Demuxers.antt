@@ -4,7 +4,7 @@ use Rattle.std.specs.List.{AllByRecursion}
 use Rattle.mc_packet.specs.declared.choice.Choice.{Choice}
 use Rattle.mc_packet.specs.declared.cache.Heads.{Heads}
 use Rattle.mc_packet.specs.declared.cache.Limits.{Limits}
-use Rattle.mc_journal.specs.Choices.{has, is_empty, is_distinct, nothing}
+use Rattle.mc_journal.specs.Choices.{has, is_empty, is_distinct, is_known, nothing}
 use Rattle.mc_range.specs.Range.{RangeState, queue_of}
 use Rattle.mc_cache.specs.Cache.{CacheState, IsCache, ranges_of, weight_of}
 use Rattle.mc_demux.specs.declared.job.Job.{Job}
@@ -12,6 +12,7 @@ use Rattle.mc_demux.specs.declared.job.Job.TheVariants.{SeekTo, Refresh, Resume,
 use Rattle.mc_demux.specs.declared.waiting.Target.{Target}
 use Rattle.mc_demux.specs.declared.waiting.Switch.{Switch}
 use Rattle.mc_demux.specs.State.{DemuxState, head_of, forward_of, back_of}
+use Rattle.mc_demux.specs.Selecting.{knows}
 
 -- ---- the limits
 
@@ -68,6 +69,7 @@ pub record IsDemux (d : DemuxState) : Type 0 where
   pub cache : IsCache d.cache
   pub limits : AreLimits d.cache.limits
   pub distinct : is_distinct d.set ≡ true
+  pub known : is_known (knows d.list) d.set ≡ true
   pub sets : AllByRecursion (λ r. r.set ≡ d.set) (ranges_of d.cache)
   pub placed : IsPlaced d.set d.heads d.waiting d.seeking d.cache.current
   pub numbered : d.number ≤ length d.journal

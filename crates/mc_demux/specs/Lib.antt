@@ -9,6 +9,8 @@ pub mod Demuxers
 pub mod Keeping
 pub mod Records
 pub mod Trimming
+pub mod Settling
+pub mod Feeding
 pub mod Readings
 pub mod Seeking
 pub mod Selecting

@@ -1,5 +1,5 @@
 -- What a seek answers and leaves.
-use Rattle.std.specs.Prelude.{◌≡◌, ℕ, ◌+◌, Bool, true, false, List, [], ◌∷◌, ◌++◌, Option, Some, None, Result, Ok, Err, ℤ, is_some}
+use Rattle.std.specs.Prelude.{◌≡◌, ℕ, ◌+◌, ◌^◌, true, false, [], ◌∷◌, ◌++◌, Option, Some, None, Result, Ok, Err, ℤ, pos, neg_ℤ, ◌≤ℤ◌, is_some}
 use Rattle.mc_packet.specs.declared.choice.Choice.{Choice}
 use Rattle.mc_packet.specs.declared.choice.Dir.{Dir}
 use Rattle.mc_packet.specs.declared.choice.Why.{Why}
@@ -10,14 +10,15 @@ use Rattle.mc_journal.specs.declared.record.Sought.TheVariants.{Cached, Sent}
 use Rattle.mc_journal.specs.declared.record.DemuxRecord.TheVariants.{Sought, Refused as RefusedRecord}
 use Rattle.mc_journal.specs.Choices.{is_empty, nothing}
 use Rattle.mc_journal.specs.Allowed.{how_by}
-use Rattle.mc_cache.specs.Cache.{CacheState}
-use Rattle.mc_cache.specs.Changing.{heads_in, server}
+use Rattle.mc_cache.specs.Cache.{CacheState, IsCache}
+use Rattle.mc_cache.specs.Changing.{IsChosen, IsLeft, heads_in, server}
 use Rattle.mc_demux.specs.declared.answer.DemuxError.{DemuxError}
 use Rattle.mc_demux.specs.declared.answer.DemuxError.TheVariants.{Refused, JournalFull, NoMemory}
 use Rattle.mc_demux.specs.declared.waiting.Target.{Target}
 use Rattle.mc_demux.specs.State.{DemuxState}
 use Rattle.mc_demux.specs.Keeping.{IsAsBefore}
 use Rattle.mc_demux.specs.Records.{HasRoom, IsFull, Wrote}
+use Rattle.mc_demux.specs.Trimming.{Trims}
 
 -- it is refused: one record tells why, and all else stays but room
 pub record IsRefused (by : ℕ) (why : Why) (old new : DemuxState) : Type 0 where
@@ -63,3 +64,35 @@ Seeks by t dir old (Ok how) new = HasRoom old.journal × (is_empty old.set ≡ f
 Seeks by t dir old (Err (Refused why)) new = HasRoom old.journal × (is_empty old.set ≡ true) × (why ≡ NoTrack) × IsRefused by why old new
 Seeks by t dir old (Err JournalFull) new = IsFull old.journal × (new ≡ old)
 Seeks by t dir old (Err NoMemory) new = HasRoom old.journal × IsAsBefore old new
+
+-- ---- by steps
+
+-- the time is one that a player may ask for, in nanoseconds
+abbrev pub IsNear : ℤ → Type 0
+IsNear t = (neg_ℤ (pos (2 ^ 62)) ≤ℤ t) × (t ≤ℤ pos (2 ^ 62))
+
+-- the cache turns to the range that serves, or leaves the one that is current
+abbrev pub Turns : Choice → ℤ → Dir → How → CacheState → CacheState → Type 0
+Turns set t dir Cached old new = IsChosen set t dir old new
+Turns set t dir Sent old new = IsLeft old new
+
+-- the record stands behind the journal, and behind it packets went as the limit asks
+pub record Goes (by : ℕ) (t : ℤ) (dir : Dir) (how : How) (old new : DemuxState) : Type 0 where
+  pub turned : CacheState
+  pub is_cache : IsCache turned
+  pub turns : Turns old.set t dir how old.cache turned
+  pub how_is : how ≡ how_of t dir old
+  pub trims : Trims by (heads_after t dir old) turned (old.journal ++ Sought by old.set t dir how ∷ []) new.cache new.journal
+  pub changed : new ≡ record old {
+    cache = new.cache;
+    heads = heads_after t dir old;
+    seeking = target_after t dir how;
+    waiting = nothing;
+    failure = None;
+    ended = nothing;
+    number = old.number + 1;
+    kept = None;
+    fed = false;
+    journal = new.journal;
+    spare = new.spare;
+  }

@@ -1,5 +1,5 @@
 -- What a selection answers and leaves.
-use Rattle.std.specs.Prelude.{◌≡◌, ℕ, ◌+◌, ◌==◌, Bool, true, false, ◌&&◌, ◌||◌, not, if◌then◌else◌, List, [], ◌∷◌, ◌++◌, Option, Some, None, Result, Ok, Err, ℤ, is_some}
+use Rattle.std.specs.Prelude.{◌≡◌, ℕ, ◌+◌, ◌==◌, Bool, true, false, ◌&&◌, ◌||◌, not, if◌then◌else◌, List, [], ◌∷◌, ◌++◌, map, Option, Some, None, Result, Ok, Err, ℤ, is_some}
 use Rattle.std.specs.List.{find, list_any}
 use Rattle.std.specs.Option.{option_map}
 use Rattle.mc_packet.specs.declared.choice.Choice.{Choice}
@@ -8,11 +8,14 @@ use Rattle.mc_packet.specs.declared.choice.Kind.TheVariants.{Video, Audio, Sub}
 use Rattle.mc_packet.specs.declared.choice.Why.{Why}
 use Rattle.mc_packet.specs.declared.choice.Why.TheVariants.{UnknownTrack, Unsupported, TwoOfKind}
 use Rattle.mc_journal.specs.declared.record.DemuxRecord.{DemuxRecord}
-use Rattle.mc_journal.specs.declared.record.DemuxRecord.TheVariants.{Sought, Switched}
+use Rattle.mc_journal.specs.declared.record.DemuxRecord.TheVariants.{Dropped, Sought, Switched}
+use Rattle.mc_journal.specs.declared.record.Removal.{Removal}
 use Rattle.mc_journal.specs.declared.record.Sought.TheVariants.{Sent}
 use Rattle.mc_journal.specs.Choices.{or_else, has, is_empty, kept_of, lead_of, nothing}
 use Rattle.mc_tracks.specs.declared.track.Track.{Track}
 use Rattle.mc_tracks.specs.TrackList.{numbered, is_of}
+use Rattle.mc_cache.specs.Cache.{CacheState, IsCache}
+use Rattle.mc_cache.specs.Changing.{IsRetracked}
 use Rattle.mc_demux.specs.declared.answer.Selected.{Selected}
 use Rattle.mc_demux.specs.declared.answer.Selected.TheVariants.{Same, Changed}
 use Rattle.mc_demux.specs.declared.answer.DemuxError.{DemuxError}
@@ -22,6 +25,7 @@ use Rattle.mc_demux.specs.State.{DemuxState}
 use Rattle.mc_demux.specs.Keeping.{IsAsBefore}
 use Rattle.mc_demux.specs.Records.{HasRoom, IsFull, WroteAll}
 use Rattle.mc_demux.specs.Seeking.{IsRefused}
+use Rattle.mc_demux.specs.Trimming.{Trims}
 
 -- ---- which tracks the numbers name
 
@@ -96,6 +100,36 @@ pub record SwitchedTo (by : ℕ) (set : Choice) (at : ℤ) (old new : DemuxState
   }
   pub limits_are : new.cache.limits ≡ old.cache.limits
   pub wrote : WroteAll by (Switched by set (added_to set old) at ∷ sought_again by set old.seeking) old.journal new.journal
+
+-- the selection's own records: itself, and a pending seek again
+abbrev pub own_records : ℕ → Choice → ℤ → DemuxState → List DemuxRecord
+own_records by set at d = Switched by set (added_to set d) at ∷ sought_again by set d.seeking
+
+-- the records of packets that went
+abbrev pub told_drops : ℕ → List Removal → List DemuxRecord
+told_drops by drops = map (λ (m : Removal). Dropped by m) drops
+
+-- what is changed, and how: the cache keeps the queues of tracks that stay, its drops are told behind the selection's own
+-- records, and then packets went as the limit asks
+pub record Switches (by : ℕ) (set : Choice) (at : ℤ) (old new : DemuxState) : Type 0 where
+  pub changed : new ≡ record old {
+    cache = new.cache;
+    set = set;
+    waiting = waiting_after old.seeking (added_to set old);
+    switch = record { lead = lead_of set; at = at };
+    failure = None;
+    ended = nothing;
+    number = old.number + 1;
+    kept = None;
+    fed = false;
+    journal = new.journal;
+    spare = new.spare;
+  }
+  pub drops : List Removal
+  pub left : CacheState
+  pub left_is : IsCache left
+  pub retracked : IsRetracked set drops old.cache left
+  pub trims : Trims by old.heads left (old.journal ++ (own_records by set at old ++ told_drops by drops)) new.cache new.journal
 
 -- a selection of the tracks of these numbers
 abbrev pub Selects : ℕ → List ℕ → ℤ → DemuxState → Result Selected DemuxError → DemuxState → Type 0

@@ -14,7 +14,7 @@ use crate::job::Job;
 use crate::reading::FULL;
 use mc_packet::{Choice, Mark, NoMemory};
 
-fn is_empty(set: Choice) -> bool
+pub(crate) fn is_empty(set: Choice) -> bool
     ensures { result ≡ is_empty set }
 {
     set.video.is_none() && set.audio.is_none() && set.sub.is_none()

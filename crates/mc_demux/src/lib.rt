@@ -3,12 +3,20 @@
 
 mod answer;
 mod asking;
+mod choosing;
 mod demux;
+mod feeding;
 mod job;
+mod joining;
 mod law;
+mod opening;
 mod outcomes;
 mod reading;
+mod rooms;
+mod seek;
+mod selecting;
 mod trim;
+mod viewing;
 mod waiting;
 mod wanting;
 

@@ -20,7 +20,7 @@ use mc_packet::{Choice, Ending, Heads, NoMemory, Packet, Pos, TrackNo};
 /// As many records as a journal has where it is full.
 pub(crate) const FULL: usize = 16_000_000;
 
-fn is_track(selected: Option<TrackNo>, track: TrackNo) -> bool
+pub(crate) fn is_track(selected: Option<TrackNo>, track: TrackNo) -> bool
     ensures { result ≡ is_track selected track }
 {
     match selected {
@@ -29,7 +29,7 @@ fn is_track(selected: Option<TrackNo>, track: TrackNo) -> bool
     }
 }
 
-fn has(set: Choice, track: TrackNo) -> bool
+pub(crate) fn has(set: Choice, track: TrackNo) -> bool
     ensures { result ≡ has set track }
 {
     is_track(set.video, track) || is_track(set.audio, track) || is_track(set.sub, track)
@@ -252,7 +252,7 @@ impl Demux {
     }
 
     /// Makes room in the journal for a record, for a drop of each packet and for two records more.
-    fn make_room(&mut self) -> Result<(), NoMemory>
+    pub(crate) fn make_room(&mut self) -> Result<(), NoMemory>
         ensures same { IsRoomy self.old self.new }
         ensures ok { OnOk result (count_of (ranges_of self.new.cache) + 3 ≤ self.new.spare) }
         ensures demux { IsDemux self.new }

@@ -1,8 +1,8 @@
-use Rattle.std.proofs.Common.{◌≡◌, ◌+◌, ◌++◌, ℕ, List, Some, None, length, refl, ap, sym, ◌∙◌, arith}
+use Rattle.std.proofs.Common.{◌≡◌, ◌+◌, Some, None, length, refl, ap, sym, ◌∙◌, arith}
 use Rattle.std.specs.List.{find}
-use Rattle.mc_range.specs.Range.{RangeState, meets_range}
+use Rattle.mc_range.specs.Range.{meets_range}
 use Rattle.mc_cache.specs.Cache.{weight_of, without_first}
-use Rattle.mc_cache.specs.Joining.{Joins, unjoined}
+use Rattle.mc_cache.specs.Joining.{unjoined}
 use Rattle.mc_cache.proofs.Lists.{fewer, found_passes, none_passes, unfound}
 use Rattle.mc_cache.proofs.United.{moved_room, next_join, only_room}
 use Rattle.mc_cache.proofs.joining.join_all.Goals as goal

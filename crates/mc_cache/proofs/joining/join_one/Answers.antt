@@ -2,7 +2,7 @@ use Rattle.mc_journal.specs.declared.record.Cause.TheVariants.{Mismatch}
 use Rattle.mc_cache.specs.Removals.{removals_of}
 use Rattle.mc_cache.proofs.United.{weighs, room_left, less_room, roomier_weighs}
 use Rattle.mc_cache.proofs.Spare.{room_kept}
-use Rattle.std.proofs.Common.{◌≡◌, ◌++◌, ◌∙◌, ap, arith, rules, refl, true, false}
+use Rattle.std.proofs.Common.{◌++◌, ◌∙◌, ap, arith, rules, refl, true, false}
 use Rattle.mc_cache.proofs.joining.join_one.Goals as goal
 
 pub returns-in-Ok-clause-weight : goal.returns-in-Ok-clause-weight

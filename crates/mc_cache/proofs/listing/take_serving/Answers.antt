@@ -1,8 +1,6 @@
-use Rattle.std.proofs.Common.{◌≡◌, Option, Some, None, List, refl, rules, w64, sym, ◌∙◌, ap}
+use Rattle.std.proofs.Common.{◌≡◌, Some, None, rules, w64, sym, ◌∙◌, ap}
 use Rattle.std.proofs.lemmas.Int.{to_z-of_z}
-use Rattle.std.specs.List.{find, position, remove, slice_get}
-use Rattle.mc_range.specs.Range.{RangeState, meets_range}
-use Rattle.mc_cache.specs.Cache.{without_first}
+use Rattle.std.specs.List.{position}
 use Rattle.mc_cache.specs.Changing.{serves}
 use Rattle.mc_cache.proofs.Lists.{got, taken, passed}
 use Rattle.mc_cache.proofs.listing.take_serving.Goals as goal

@@ -1,8 +1,6 @@
-use Rattle.std.proofs.Common.{◌≡◌, Option, Some, None, List, refl, rules, sym, ◌∙◌, ap}
-use Rattle.std.specs.List.{find, position, remove, slice_get}
-use Rattle.mc_range.specs.Range.{RangeState, meets_range}
-use Rattle.mc_cache.specs.Cache.{without_first}
-use Rattle.mc_cache.specs.Changing.{serves}
+use Rattle.std.proofs.Common.{◌≡◌, Some, None, rules, sym, ◌∙◌, ap}
+use Rattle.std.specs.List.{position}
+use Rattle.mc_range.specs.Range.{meets_range}
 use Rattle.mc_cache.proofs.Lists.{got, taken, passed}
 use Rattle.mc_cache.proofs.listing.take_touching.Goals as goal
 

@@ -1,4 +1,4 @@
-use Rattle.std.proofs.Common.{◌≡◌, ◌+◌, ◌<◌, arith}
+use Rattle.std.proofs.Common.{arith}
 use Rattle.mc_cache.proofs.Spare.{front_fits, front_parts}
 use Rattle.mc_cache.proofs.rooms.count_all_at.Goals as goal
 

@@ -1,8 +1,7 @@
-use Rattle.std.proofs.Common.{◌≡◌, Option, Some, None, List, refl, w64, to_z, of_z, sym, ◌∙◌, ap, subst}
+use Rattle.std.proofs.Common.{◌≡◌, Some, None, w64, to_z, of_z, sym, ◌∙◌, ap, subst}
 use Rattle.std.proofs.lemmas.Int.{to_z-of_z}
-use Rattle.std.specs.Prelude.{IfNone, OnSome}
 use Rattle.std.specs.List.{find}
-use Rattle.mc_cache.specs.Cache.{CacheState, IsCache, with_others}
+use Rattle.mc_cache.specs.Cache.{CacheState, IsCache}
 use Rattle.mc_cache.specs.Changing.{IsChosen, heads_in, serves}
 use Rattle.mc_cache.proofs.Chosen.{stays, never_none, on_some, chosen, unmoved}
 use Rattle.mc_cache.proofs.cache.Cache.choose.Goals as goal

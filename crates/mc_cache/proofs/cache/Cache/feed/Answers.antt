@@ -1,4 +1,4 @@
-use Rattle.std.proofs.Common.{◌≡◌, ap, subst, arith}
+use Rattle.std.proofs.Common.{ap, subst, arith}
 use Rattle.std.specs.Prelude.{IsSomeAnd, OnOk}
 use Rattle.mc_range.specs.Growing.{IsFed}
 use Rattle.mc_cache.specs.Cache.{CacheState}

@@ -1,4 +1,4 @@
-use Rattle.std.proofs.Common.{◌≡◌, ◌+◌, ◌<◌, ap, arith}
+use Rattle.std.proofs.Common.{ap, arith}
 use Rattle.mc_cache.specs.Cache.{count_of}
 use Rattle.mc_cache.proofs.Lists.{front_counts, front_adds}
 use Rattle.mc_cache.proofs.cache.Cache.held.Goals as goal

@@ -1,4 +1,4 @@
-use Rattle.std.proofs.Common.{◌≡◌, ◌∙◌, ap}
+use Rattle.std.proofs.Common.{◌∙◌, ap}
 use Rattle.mc_range.specs.Range.{place_at}
 use Rattle.mc_cache.specs.Rooms.{meets_then_in}
 use Rattle.mc_cache.proofs.Feeding.{alone}

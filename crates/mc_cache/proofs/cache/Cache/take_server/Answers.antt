@@ -1,8 +1,6 @@
-use Rattle.std.proofs.Common.{◌≡◌, w64, to_z, of_z, sym, ◌∙◌, ap, subst}
-use Rattle.std.specs.Prelude.{vec_capacity, IfSome, ℤ, Option}
-use Rattle.std.proofs.lemmas.Int.{to_z-of_z}
-use Rattle.mc_range.specs.Range.{RangeState}
-use Rattle.mc_cache.specs.Cache.{CacheState, IsCache, Fewer, with_others, without_first}
+use Rattle.std.proofs.Common.{w64, to_z, of_z, ap, subst}
+use Rattle.std.specs.Prelude.{vec_capacity, IfSome}
+use Rattle.mc_cache.specs.Cache.{CacheState, Fewer}
 use Rattle.mc_cache.specs.Changing.{serves}
 use Rattle.mc_cache.proofs.Chosen.{kept_out, fewer_of}
 use Rattle.mc_cache.proofs.cache.Cache.take_server.Goals as goal

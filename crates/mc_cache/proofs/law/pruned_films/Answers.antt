@@ -1,0 +1,17 @@
+use Rattle.mc_cache.proofs.FilmPruned.{pruned_cut, pruned_heads, pruned_holds, pruned_may, pruned_stand}
+use Rattle.mc_cache.proofs.law.pruned_films.Goals as goal
+
+pub returns-clause-stand : goal.returns-clause-stand
+returns-clause-stand c = pruned_stand
+
+pub returns-clause-film : goal.returns-clause-film
+returns-clause-film c = pruned_holds
+
+pub returns-clause-cut : goal.returns-clause-cut
+returns-clause-cut c = pruned_cut
+
+pub returns-clause-may : goal.returns-clause-may
+returns-clause-may c = pruned_may
+
+pub returns-clause-heads : goal.returns-clause-heads
+returns-clause-heads c = pruned_heads

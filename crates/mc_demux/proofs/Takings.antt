@@ -1,0 +1,102 @@
+-- What the outcome of a job rests on once room was made for it, and what is said of it then.
+use Rattle.std.proofs.Common.{◌≡◌, ℕ, ◌+◌, Option, Some, None, List, [], ◌∷◌, ◌++◌, refl, ap, sym, subst, ◌∙◌, append_assoc, arith}
+use Rattle.std.specs.Prelude.{IsSomeAnd, reverse}
+use Rattle.mc_packet.specs.declared.packet.Packet.{Packet}
+use Rattle.mc_packet.specs.declared.cache.Limits.{Limits}
+use Rattle.mc_packet.specs.declared.walk.Chunk.{Chunk}
+use Rattle.mc_packet.specs.declared.walk.Mark.{Mark}
+use Rattle.mc_journal.specs.declared.record.DemuxRecord.{DemuxRecord}
+use Rattle.mc_journal.specs.declared.record.DemuxRecord.TheVariants.{Fed}
+use Rattle.mc_journal.specs.Choices.{or_else}
+use Rattle.mc_journal.specs.Films.{Film}
+use Rattle.mc_queue.specs.Queue.{QueueState}
+use Rattle.mc_range.specs.Range.{RangeState, Roomier}
+use Rattle.mc_range.specs.Growing.{takes}
+use Rattle.mc_cache.specs.Cache.{CacheState, mark_in}
+use Rattle.mc_cache.specs.Changing.{IsSameButRoom, RoomierIn}
+use Rattle.mc_demux.specs.declared.job.Job.{Job}
+use Rattle.mc_demux.specs.State.{DemuxState}
+use Rattle.mc_demux.specs.Demuxers.{IsDemux}
+use Rattle.mc_demux.specs.Film.{Fits, IsPartOf, StandsFor}
+use Rattle.mc_demux.specs.Feeding.{TakesPart}
+use Rattle.mc_demux.specs.Keeping.{IsAsBefore, IsRoomy}
+use Rattle.mc_demux.specs.Outcomes.{FedOn, PartFits, is_at, took_in}
+use Rattle.mc_demux.specs.Records.{WroteAll}
+use Rattle.mc_demux.proofs.FilmParts.{part_keeps}
+use Rattle.mc_demux.proofs.FilmRoomy.{roomy_fits}
+use Rattle.mc_demux.proofs.Roomy.{mark_roomier}
+use Rattle.mc_demux.proofs.Settled.{WritesExtras, settled}
+
+-- ---- more room
+
+pub same_kept : (P : Job → Type 0) (old mid : DemuxState) → IsAsBefore old mid → IsSomeAnd old.kept P → IsSomeAnd mid.kept P
+same_kept P old mid m k = subst (λ (d : DemuxState). IsSomeAnd d.kept P) (sym m.changed) k
+
+pub same_mark : (old mid : DemuxState) (mark : Mark) → IsAsBefore old mid → mark_in old.cache.current ≡ Some mark → mark_in mid.cache.current ≡ Some mark
+same_mark old mid mark m e = mark_roomier old.cache.current mid.cache.current m.cache_is.current ∙ e
+
+pub roomy_stands : (film : Film) (old mid : DemuxState) → IsAsBefore old mid → StandsFor film old → StandsFor film mid
+roomy_stands film old mid m s =
+    let f = roomy_fits film old.cache.limits old.set old.cache mid.cache old.heads old.seeking old.waiting old.switch old.failure old.ended (reverse old.journal) m.cache_is s.fits in
+    subst (λ (d : DemuxState). StandsFor film d) (sym m.changed) (record {
+      fits = subst (λ (l : Limits). Fits film l old.set mid.cache.current mid.cache.others old.heads old.seeking old.waiting old.switch old.failure old.ended (reverse old.journal)) (sym m.cache_is.limits_is) f;
+      still = s.still;
+      known = s.known;
+    })
+
+pub roomy_both : (old mid new : DemuxState) → IsRoomy old mid → IsAsBefore mid new → IsAsBefore old new
+roomy_both old mid new r b =
+    let e : mid.cache ≡ old.cache = ap (λ (d : DemuxState). d.cache) r.changed in
+    let more = r.roomier in
+    let again = b.roomier in
+    record {
+      changed = b.changed ∙ ap (λ (d : DemuxState). let x : DemuxState = record d { cache = new.cache; spare = new.spare } in x) r.changed;
+      cache_is = subst (λ (c : CacheState). IsSameButRoom c new.cache) e b.cache_is;
+      roomier = omega arith;
+    }
+
+-- ---- which track takes packets
+
+same_takes : (ps : List Packet) (o n : Option QueueState) → Roomier o n → takes ps n ≡ takes ps o
+same_takes ps None n r = ap (λ (x : Option QueueState). takes ps x) r
+same_takes ps (Some q) None r = absurd r
+same_takes ps (Some q) (Some m) r = ap (λ (x : QueueState). takes ps (Some x)) r.0
+
+three : (a b c x y z : Option ℕ) → a ≡ x → b ≡ y → c ≡ z → or_else a (or_else b c) ≡ or_else x (or_else y z)
+three a b c x y z e f g = rw (e, f, g) refl
+
+same_took : (chunk : Chunk) (o n : Option RangeState) → RoomierIn o n → took_in chunk n ≡ took_in chunk o
+same_took chunk None n r = ap (λ (x : Option RangeState). took_in chunk x) r
+same_took chunk (Some a) None r = absurd r
+same_took chunk (Some a) (Some b) r =
+    three (takes chunk.packets b.queues.video) (takes chunk.packets b.queues.audio) (takes chunk.packets b.queues.sub) (takes chunk.packets a.queues.video) (takes chunk.packets a.queues.audio)
+    (takes chunk.packets a.queues.sub) (same_takes chunk.packets a.queues.video b.queues.video r.queues.video) (same_takes chunk.packets a.queues.audio b.queues.audio r.queues.audio)
+    (same_takes chunk.packets a.queues.sub b.queues.sub r.queues.sub)
+
+-- ---- a part that was taken
+
+pub wrote_all : (by : ℕ) (own : DemuxRecord) (old new : List DemuxRecord) → WritesExtras by (old ++ own ∷ []) new → WroteAll by (own ∷ []) old new
+wrote_all by own old new w = record { extras = w.extras; grows = w.grows ∙ append_assoc old (own ∷ []) w.extras; are = w.are }
+
+pub fed_on : (old mid new : DemuxState) (chunk : Chunk) → IsAsBefore old mid → TakesPart chunk mid new → FedOn chunk old new
+fed_on old mid new chunk m t =
+    let d = settled 5 mid.set mid.heads mid.waiting mid.seeking t.fed (mid.journal ++ Fed 5 chunk.from chunk.to (took_in chunk mid.cache.current) chunk.ending ∷ []) new.cache new.journal t.is_cache t.settles in
+    let w = wrote_all 5 (Fed 5 chunk.from chunk.to (took_in chunk mid.cache.current) chunk.ending) mid.journal new.journal d.wrote in
+    let journal : mid.journal ≡ old.journal = ap (λ (x : DemuxState). x.journal) m.changed in
+    record {
+      changed = t.changed ∙ ap (λ (x : DemuxState). let y : DemuxState = record x {
+        cache = new.cache;
+        number = x.number + 1;
+        kept = None;
+        fed = is_at chunk.to (mark_in new.cache.current);
+        journal = new.journal;
+        spare = new.spare;
+      } in y) m.changed;
+      limits_are = d.limits_are ∙ t.feeds.rest.limits_is ∙ m.cache_is.limits_is;
+      wrote = subst (λ (j : List DemuxRecord). WroteAll 5 (Fed 5 chunk.from chunk.to (took_in chunk old.cache.current) chunk.ending ∷ []) j new.journal) journal
+          (subst (λ (o : Option ℕ). WroteAll 5 (Fed 5 chunk.from chunk.to o chunk.ending ∷ []) mid.journal new.journal) (same_took chunk old.cache.current mid.cache.current m.cache_is.current) w);
+    }
+
+pub feed_keeps : (film : Film) (old mid new : DemuxState) (chunk : Chunk) → IsAsBefore old mid → IsDemux mid → IsSomeAnd mid.kept (PartFits chunk) → mark_in mid.cache.current ≡ Some chunk.from
+    → IsPartOf film chunk → TakesPart chunk mid new → StandsFor film old → StandsFor film new
+feed_keeps film old mid new chunk m i k e part t s = part_keeps film mid new chunk i k e part t (roomy_stands film old mid m s)

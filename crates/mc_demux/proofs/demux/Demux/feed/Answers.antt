@@ -1,0 +1,31 @@
+use Rattle.std.proofs.Common.{◌≡◌, rules, subst, sym}
+use Rattle.mc_demux.specs.State.{DemuxState}
+use Rattle.mc_demux.specs.Film.{StandsFor}
+use Rattle.mc_demux.specs.Outcomes.{PartFits}
+use Rattle.mc_demux.specs.Records.{HasRoom}
+use Rattle.mc_demux.proofs.Takings.{fed_on, feed_keeps, roomy_stands, same_kept, same_mark}
+use Rattle.mc_demux.proofs.demux.Demux.feed.Goals as goal
+
+pub returns-in_err-make_room_to_feed-clause-film : goal.returns-in_err-make_room_to_feed-clause-film
+returns-in_err-make_room_to_feed-clause-film c = λ film p s.
+    roomy_stands film c.args.self.now c.make_room_to_feed.new.self c.in_err-make_room_to_feed.ensures.same s
+
+pub returns-in_err-take_part-clause-film : goal.returns-in_err-take_part-clause-film
+returns-in_err-take_part-clause-film c = λ film p s.
+    subst (λ (d : DemuxState). StandsFor film d) (sym c.in_err-take_part.ensures.err)
+    (roomy_stands film c.args.self.now c.make_room_to_feed.new.self c.in_ok-make_room_to_feed.ensures.same s)
+
+pub returns-clause-value : goal.returns-clause-value
+returns-clause-value c =
+    let room : HasRoom c.args.self.now.journal = search rules in
+    let same : c.args.no ≡ c.args.self.now.number = search rules in
+    (room, same, fed_on c.args.self.now c.make_room_to_feed.new.self c.take_part.new.self c.args.chunk c.in_ok-make_room_to_feed.ensures.same c.in_ok-take_part.ensures.ok)
+
+pub returns-clause-film : goal.returns-clause-film
+returns-clause-film c = λ film p s.
+    let same : c.args.no ≡ c.args.self.now.number = search rules in
+    let b = c.requires.brought same in
+    let m = c.in_ok-make_room_to_feed.ensures.same in
+    feed_keeps film c.args.self.now c.make_room_to_feed.new.self c.take_part.new.self c.args.chunk m c.in_ok-make_room_to_feed.ensures.demux
+    (same_kept (PartFits c.args.chunk) c.args.self.now c.make_room_to_feed.new.self m b.0)
+    (same_mark c.args.self.now c.make_room_to_feed.new.self c.args.chunk.from m b.1) p c.in_ok-take_part.ensures.ok s

@@ -1,0 +1,34 @@
+use Rattle.std.proofs.Common.{◌≡◌, ℤ, true, false, rules, subst, ap, ◌∙◌, w64, to_z, of_z}
+use Rattle.std.specs.Prelude.{reverse}
+use Rattle.std.proofs.lemmas.Int.{to_z-of_z}
+use Rattle.mc_packet.specs.declared.choice.Choice.{Choice}
+use Rattle.mc_packet.specs.declared.choice.Why.TheVariants.{NoTrack}
+use Rattle.mc_journal.specs.Choices.{is_empty}
+use Rattle.mc_journal.specs.Readings.{selected}
+use Rattle.mc_demux.specs.State.{DemuxState}
+use Rattle.mc_demux.specs.Demuxers.{IsDemux}
+use Rattle.mc_demux.specs.Records.{HasRoom}
+use Rattle.mc_demux.specs.Seeking.{Goes}
+use Rattle.mc_demux.proofs.Turned.{goes_keeps, goes_seeks, refused_keeps, roomy_goes}
+use Rattle.mc_demux.proofs.demux.Demux.seek.Goals as goal
+
+pub returns-then-is_empty-clause-film : goal.returns-then-is_empty-clause-film
+returns-then-is_empty-clause-film c = λ film s.
+    let none : is_empty c.args.self.now.set ≡ true = search rules in
+    let why : is_empty (selected (reverse c.args.self.now.journal)) ≡ true = ap (λ (x : Choice). is_empty x) s.fits.set_is ∙ none in
+    refused_keeps film c.args.self.now c.refuse.new.self c.args.by NoTrack c.in_ok-refuse.ensures.ok why s
+
+pub returns-clause-value : goal.returns-clause-value
+returns-clause-value c =
+    let room : HasRoom c.args.self.now.journal = search rules in
+    let some : is_empty c.args.self.now.set ≡ false = search rules in
+    goes_seeks c.args.self.now c.go.new.self c.args.by c.args.t c.args.dir c.go.result room some
+    (roomy_goes c.args.self.now c.make_room.new.self c.go.new.self c.args.by c.args.t c.args.dir c.go.result c.in_ok-make_room.ensures.same
+    (subst (λ (z : ℤ). Goes c.args.by z c.args.dir c.go.result c.make_room.new.self c.go.new.self) (to_z-of_z w64 c.args.t c.ranges.t) c.go.ensures.value))
+
+pub returns-clause-film : goal.returns-clause-film
+returns-clause-film c = λ film s.
+    let d : IsDemux c.args.self.now = subst (λ (x : DemuxState). IsDemux x) c.self.view_is c.self.invariant in
+    let some : is_empty c.args.self.now.set ≡ false = search rules in
+    goes_keeps film c.args.self.now c.go.new.self c.args.by (to_z w64 (of_z w64 c.args.t)) c.args.dir c.go.result d some
+    (roomy_goes c.args.self.now c.make_room.new.self c.go.new.self c.args.by (to_z w64 (of_z w64 c.args.t)) c.args.dir c.go.result c.in_ok-make_room.ensures.same c.go.ensures.value) s

@@ -5,6 +5,7 @@ mod answer;
 mod asking;
 mod demux;
 mod feeding;
+mod finding;
 mod job;
 mod joining;
 mod law;

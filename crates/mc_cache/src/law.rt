@@ -1,7 +1,7 @@
 //! What the calls of a cache mean for the film: over every list of a film's packets of which each
 //! range holds, of each track, exactly those in its span, the ranges after a call are those that the
 //! record of it leaves by the rules of `mc_journal`, and they hold the film's packets again.
-ghost use Rattle.std.specs.Prelude.{◌≡◌, ℕ, None, true, List, ℤ, IsSomeAnd, option_map, IfSome, is_some, drop, map, ◌∷◌, ◌-◌, sum_by};
+ghost use Rattle.std.specs.Prelude.{◌≡◌, ◌<◌, ℕ, None, true, List, ℤ, IsSomeAnd, option_map, IfSome, is_some, drop, map, ◌∷◌, ◌-◌, sum_by};
 ghost use Rattle.std.specs.List.{AllByRecursion};
 ghost use Rattle.mc_packet.specs.declared.choice.Choice.{Choice};
 ghost use Rattle.mc_packet.specs.declared.choice.Dir.{Dir};
@@ -27,7 +27,7 @@ ghost use Rattle.mc_cache.specs.Joining.{Joins};
 ghost use Rattle.mc_cache.specs.Filmed.{HoldsAll, HoldsIn, JoinsFilm};
 ghost use Rattle.mc_cache.specs.Placed.{AddsStarts, AllFramed, HeadsAt, due_of};
 ghost use Rattle.mc_cache.specs.Shown.{view_of};
-ghost use Rattle.mc_cache.specs.Pruning.{Drops};
+ghost use Rattle.mc_cache.specs.Pruning.{Drops, ahead_in, back_of};
 ghost use Rattle.mc_journal.specs.Views as views;
 
 /// The range that a seek makes current is the first that serves it, as the rule over the film's list
@@ -121,11 +121,14 @@ pub fn tidy_films()
 {}
 
 /// A drop that the limit asks for is the cut of the rule, of no packet at a head or behind it; the
-/// ranges are those that its record leaves, and each head stays where it was.
+/// ranges are those that its record leaves, and each head stays where it was. What lies at the heads
+/// or behind them stays, and what lies in front of them gets less, so that dropping comes to an end.
 pub fn pruned_films()
     ensures stand { (ps : List Told) (set : Choice) (heads : Heads) (m : Removal) (old new : CacheState) → IsCache old → HoldsAll ps set old → Drops heads m old new → stand_of new ≡ tidied ps set (dropped m.track (rank m.to) m.cause (stand_of old)) }
     ensures film { (ps : List Told) (set : Choice) (heads : Heads) (m : Removal) (old new : CacheState) → IsCache old → HoldsAll ps set old → Drops heads m old new → HoldsAll ps set new }
     ensures cut { (ps : List Told) (set : Choice) (heads : Heads) (place : ℕ → ℕ) (m : Removal) (old new : CacheState) → IsCache old → HoldsAll ps set old → IfSome old.current (HeadsAt set heads place) → Drops heads m old new → CutsIn ps set place m.track (rank m.from) (rank m.to) (stand_of old).current (stand_of old).others }
     ensures may { (ps : List Told) (set : Choice) (heads : Heads) (place : ℕ → ℕ) (m : Removal) (old new : CacheState) → IsCache old → HoldsAll ps set old → IfSome old.current (HeadsAt set heads place) → Drops heads m old new → MayCut m.track (rank m.from) (rank m.to) (place m.track) (stand_of old).current (stand_of old).others }
     ensures heads { (ps : List Told) (set : Choice) (heads : Heads) (place : ℕ → ℕ) (m : Removal) (old new : CacheState) → IsCache old → HoldsAll ps set old → IfSome old.current (HeadsAt set heads place) → Drops heads m old new → IfSome new.current (HeadsAt set heads place) }
+    ensures spares { (heads : Heads) (m : Removal) (old new : CacheState) → Drops heads m old new → ahead_in heads new.current ≡ ahead_in heads old.current }
+    ensures less { (heads : Heads) (m : Removal) (old new : CacheState) → IsCache old → Drops heads m old new → back_of heads new < back_of heads old }
 {}

@@ -17,3 +17,4 @@ pub mod FilmTold
 pub mod Viewed
 pub mod FilmDrops
 pub mod FilmPruned
+pub mod Shapes

@@ -14,6 +14,8 @@ mod prepared;
 mod removals;
 mod rooms;
 #[cfg(test)]
+mod tables;
+#[cfg(test)]
 mod tests;
 mod views;
 

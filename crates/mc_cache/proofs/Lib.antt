@@ -18,3 +18,4 @@ pub mod Viewed
 pub mod FilmDrops
 pub mod FilmPruned
 pub mod Shapes
+pub mod JoinedUp

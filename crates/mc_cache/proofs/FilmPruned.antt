@@ -1,5 +1,5 @@
 -- Over a film's list the drop that the limit asks for is the one of the rules, and what is left is their stand.
-use Rattle.std.proofs.Common.{◌≡◌, ℕ, ◌==◌, ◌≤◌, Bool, true, false, List, [], ◌∷◌, Option, Some, None, refl, ap, sym, subst, ◌∙◌, inl, inr}
+use Rattle.std.proofs.Common.{◌≡◌, ℕ, ◌==◌, ◌<◌, ◌≤◌, Bool, true, false, List, [], ◌∷◌, Option, Some, None, refl, ap, sym, subst, ◌∙◌, arith, inl, inr}
 use Rattle.std.specs.Prelude.{IfSome, IsSomeAnd, if◌then◌else◌, is_some, map}
 use Rattle.std.specs.List.{AllByRecursion, filter}
 use Rattle.std.specs.Option.{option_map}
@@ -21,10 +21,11 @@ use Rattle.mc_range.specs.Range.{RangeState, IsRange, as_range, queue_of, span_o
 use Rattle.mc_range.specs.Cutting.{IsCut}
 use Rattle.mc_range.specs.Filmed.{AreBounds}
 use Rattle.mc_range.proofs.FilmCut.{film_cut}
-use Rattle.mc_cache.specs.Cache.{CacheState, IsCache, IsOther, holds, stand_of}
+use Rattle.mc_range.proofs.Spared.{cut_lighter, cut_spares}
+use Rattle.mc_cache.specs.Cache.{CacheState, IsCache, IsOther, holds, in_front, stand_of, weight_of}
 use Rattle.mc_cache.specs.Filmed.{HoldsAll, HoldsIn}
 use Rattle.mc_cache.specs.Placed.{HeadsAt, head_of}
-use Rattle.mc_cache.specs.Pruning.{CutsLast, CutsRange, Drops}
+use Rattle.mc_cache.specs.Pruning.{CutsLast, CutsRange, Drops, ahead_in, back_of}
 use Rattle.mc_cache.proofs.FilmDrops.{cut_well, cuts_span, cut_below, cut_upto}
 use Rattle.mc_cache.proofs.Standing.{holds_same}
 use Rattle.mc_cache.proofs.Viewed.{kind_heads}
@@ -240,3 +241,46 @@ heads_in ps set heads place (Some r) (Some q) [] rs' x i h a k =
 pub pruned_heads : (ps : List Told) (set : Choice) (heads : Heads) (place : ℕ → ℕ) (m : Removal) (old new : CacheState) → IsCache old → HoldsAll ps set old → IfSome old.current (HeadsAt set heads place)
     → Drops heads m old new → IfSome new.current (HeadsAt set heads place)
 pruned_heads ps set heads place m old new i h a d = heads_in ps set heads place old.current new.current old.others new.others d.cut i.current h.current a d.ranges
+
+-- ---- what lies at the heads or behind them stays, and what is in front of them gets less
+
+spares_in : (heads : Heads) (c c' : Option RangeState) (rs rs' : List RangeState) (x : Cut) → CutsRange heads c rs c' rs' x → ahead_in heads c' ≡ ahead_in heads c
+spares_in heads c c' (r ∷ rs) rs' x k = ap (λ z. ahead_in heads z) k.1
+spares_in heads None c' [] rs' x k = absurd k.0
+spares_in heads (Some r) None [] rs' x k = absurd k.0
+spares_in heads (Some r) (Some q) [] rs' x k = cut_spares heads r q (Some x) k.0
+
+last_lighter : (rs new : List RangeState) (x : Cut) → AllByRecursion IsOther rs → CutsLast rs new x → weight_of new < weight_of rs
+last_lighter [] new x i k = absurd k
+last_lighter (r ∷ []) new x i k =
+    let l = cut_lighter None r k.0 x i.0.range k.1 in
+    let e = k.2 in
+    rw e (elim (cases_Bool (holds k.0)) [ inl y ↦ rw y (omega arith) | inr n ↦ rw n (omega arith) ])
+last_lighter (r ∷ o ∷ rs) new x i k =
+    let more = last_lighter (o ∷ rs) k.0 x i.1 k.1 in
+    let e = k.2 in
+    rw e (omega arith)
+
+front_lighter : (c : Option RangeState) (rs rs' : List RangeState) → weight_of rs' < weight_of rs → weight_of (in_front c rs') < weight_of (in_front c rs)
+front_lighter None rs rs' l = l
+front_lighter (Some r) rs rs' l = omega arith
+
+lighter_in : (heads : Heads) (c c' : Option RangeState) (rs rs' : List RangeState) (x : Cut) → IfSome c IsRange → AllByRecursion IsOther rs → CutsRange heads c rs c' rs' x
+    → weight_of (in_front c' rs') < weight_of (in_front c rs)
+lighter_in heads c c' (r ∷ rs) rs' x i j k = let e = k.1 in rw e (front_lighter c (r ∷ rs) rs' (last_lighter (r ∷ rs) rs' x j k.0))
+lighter_in heads None c' [] rs' x i j k = absurd k.0
+lighter_in heads (Some r) None [] rs' x i j k = absurd k.0
+lighter_in heads (Some r) (Some q) [] rs' x i j k =
+    let l = cut_lighter (Some heads) r q x i k.0 in
+    let e = k.1 in
+    rw e (omega arith)
+
+pub pruned_spares : (heads : Heads) (m : Removal) (old new : CacheState) → Drops heads m old new → ahead_in heads new.current ≡ ahead_in heads old.current
+pruned_spares heads m old new d = spares_in heads old.current new.current old.others new.others d.cut d.ranges
+
+pub pruned_less : (heads : Heads) (m : Removal) (old new : CacheState) → IsCache old → Drops heads m old new → back_of heads new < back_of heads old
+pruned_less heads m old new i d =
+    let s = pruned_spares heads m old new d in
+    let l = lighter_in heads old.current new.current old.others new.others d.cut i.current i.others d.ranges in
+    let o = d.over in
+    omega arith

@@ -37,7 +37,7 @@ same_track (Some k) = eq-eqb k k refl
 same_set : (set : Choice) → is_same_set set set ≡ true
 same_set set = let v = same_track set.video in let a = same_track set.audio in let s = same_track set.sub in rw (v, a, s) refl
 
-meets_is : (ps : List Told) (set : Choice) (r q : RangeState) → HoldsIn ps set r → HoldsIn ps set q → meets_range r q ≡ touches set (as_range r) (as_range q)
+pub meets_is : (ps : List Told) (set : Choice) (r q : RangeState) → HoldsIn ps set r → HoldsIn ps set q → meets_range r q ≡ touches set (as_range r) (as_range q)
 meets_is ps set r q h g =
     let e = h.set_is in
     let f = g.set_is in

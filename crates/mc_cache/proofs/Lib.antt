@@ -17,3 +17,5 @@ pub mod FilmTold
 pub mod Viewed
 pub mod FilmDrops
 pub mod FilmPruned
+pub mod Shapes
+pub mod JoinedUp

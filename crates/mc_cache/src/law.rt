@@ -1,7 +1,7 @@
 //! What the calls of a cache mean for the film: over every list of a film's packets of which each
 //! range holds, of each track, exactly those in its span, the ranges after a call are those that the
 //! record of it leaves by the rules of `mc_journal`, and they hold the film's packets again.
-ghost use Rattle.std.specs.Prelude.{◌≡◌, ℕ, None, true, List, ℤ, IsSomeAnd, option_map, IfSome, is_some, drop, map, ◌∷◌, ◌-◌, sum_by};
+ghost use Rattle.std.specs.Prelude.{◌≡◌, ◌<◌, ℕ, None, true, false, [], List, ℤ, IsSomeAnd, option_map, IfSome, is_some, drop, map, ◌∷◌, ◌-◌, sum_by};
 ghost use Rattle.std.specs.List.{AllByRecursion};
 ghost use Rattle.mc_packet.specs.declared.choice.Choice.{Choice};
 ghost use Rattle.mc_packet.specs.declared.choice.Dir.{Dir};
@@ -18,16 +18,16 @@ ghost use Rattle.mc_journal.specs.Ranges.{serves};
 ghost use Rattle.mc_journal.specs.Stands.{chosen, fed, first_that, found_with, left, ranges_of, switched, tidied, found, dropped};
 ghost use Rattle.mc_journal.specs.Used.{Due, IsDue, due_found, due_switch, CutsIn};
 ghost use Rattle.mc_journal.specs.Views.{forward_in, range_shown, range_weight};
-ghost use Rattle.mc_journal.specs.Allowed.{MayCut};
+ghost use Rattle.mc_journal.specs.Allowed.{MayCut, touched};
 ghost use Rattle.mc_range.specs.Range.{IsRange, RangeState, as_range};
 ghost use Rattle.mc_range.specs.Filmed.{IsPart, same_kinds, start_only};
 ghost use Rattle.mc_cache.specs.Cache.{CacheState, IsCache, IsOther, stand_of};
 ghost use Rattle.mc_cache.specs.Changing.{AddsTrack, Feeds, IsChosen, IsLeft, IsOnlyRoomier, IsRetracked, IsSameButRoom, IsStarted, MayAdd, server};
-ghost use Rattle.mc_cache.specs.Joining.{Joins};
-ghost use Rattle.mc_cache.specs.Filmed.{HoldsAll, HoldsIn, JoinsFilm};
+ghost use Rattle.mc_cache.specs.Joining.{IsJoinedUp, Joins};
+ghost use Rattle.mc_cache.specs.Filmed.{AreTouched, HoldsAll, HoldsIn, JoinsFilm, joined_times};
 ghost use Rattle.mc_cache.specs.Placed.{AddsStarts, AllFramed, HeadsAt, due_of};
 ghost use Rattle.mc_cache.specs.Shown.{view_of};
-ghost use Rattle.mc_cache.specs.Pruning.{Drops};
+ghost use Rattle.mc_cache.specs.Pruning.{Drops, ahead_in, back_of};
 ghost use Rattle.mc_journal.specs.Views as views;
 
 /// The range that a seek makes current is the first that serves it, as the rule over the film's list
@@ -72,6 +72,16 @@ pub fn switched_films()
 /// many joins leave, each where another range touches the current one.
 pub fn joined_films()
     ensures { (ps : List Told) (set : Choice) (first : RangeState) (beside : List RangeState) (r : RangeState) (rs : List RangeState) (n : ℕ) (drops : List Removal) → IsRising ps → IsRange first → HoldsIn ps set first → AllByRecursion IsOther beside → AllByRecursion (HoldsIn ps set) beside → Joins first beside r rs n drops → JoinsFilm ps set first beside r rs n drops }
+{}
+
+/// The joins that a call makes are the rule's, each where another range touches the current one, and
+/// then none touches it; so none is left to be made, and nothing is told of them.
+pub fn joined_up_films()
+    ensures none_told { (ps : List Told) (set : Choice) (n : ℕ) (drops : List Removal) (old new : CacheState) → IsRising ps → IsCache old → HoldsAll ps set old → IsJoinedUp n drops old new → drops ≡ [] }
+    ensures stand { (ps : List Told) (set : Choice) (n : ℕ) (drops : List Removal) (old new : CacheState) → IsRising ps → IsCache old → HoldsAll ps set old → IsJoinedUp n drops old new → joined_times n set (stand_of old) ≡ stand_of new }
+    ensures touching { (ps : List Told) (set : Choice) (n : ℕ) (drops : List Removal) (old new : CacheState) → IsRising ps → IsCache old → HoldsAll ps set old → IsJoinedUp n drops old new → AreTouched n set (stand_of old) }
+    ensures done { (ps : List Told) (set : Choice) (n : ℕ) (drops : List Removal) (old new : CacheState) → IsRising ps → IsCache old → HoldsAll ps set old → IsJoinedUp n drops old new → touched set (stand_of new).others (stand_of new).current ≡ false }
+    ensures film { (ps : List Told) (set : Choice) (n : ℕ) (drops : List Removal) (old new : CacheState) → IsRising ps → IsCache old → HoldsAll ps set old → IsJoinedUp n drops old new → HoldsAll ps set new }
 {}
 
 /// Making room changes nothing of the ranges, and each head stays where it was.
@@ -121,11 +131,14 @@ pub fn tidy_films()
 {}
 
 /// A drop that the limit asks for is the cut of the rule, of no packet at a head or behind it; the
-/// ranges are those that its record leaves, and each head stays where it was.
+/// ranges are those that its record leaves, and each head stays where it was. What lies at the heads
+/// or behind them stays, and what lies in front of them gets less, so that dropping comes to an end.
 pub fn pruned_films()
     ensures stand { (ps : List Told) (set : Choice) (heads : Heads) (m : Removal) (old new : CacheState) → IsCache old → HoldsAll ps set old → Drops heads m old new → stand_of new ≡ tidied ps set (dropped m.track (rank m.to) m.cause (stand_of old)) }
     ensures film { (ps : List Told) (set : Choice) (heads : Heads) (m : Removal) (old new : CacheState) → IsCache old → HoldsAll ps set old → Drops heads m old new → HoldsAll ps set new }
     ensures cut { (ps : List Told) (set : Choice) (heads : Heads) (place : ℕ → ℕ) (m : Removal) (old new : CacheState) → IsCache old → HoldsAll ps set old → IfSome old.current (HeadsAt set heads place) → Drops heads m old new → CutsIn ps set place m.track (rank m.from) (rank m.to) (stand_of old).current (stand_of old).others }
     ensures may { (ps : List Told) (set : Choice) (heads : Heads) (place : ℕ → ℕ) (m : Removal) (old new : CacheState) → IsCache old → HoldsAll ps set old → IfSome old.current (HeadsAt set heads place) → Drops heads m old new → MayCut m.track (rank m.from) (rank m.to) (place m.track) (stand_of old).current (stand_of old).others }
     ensures heads { (ps : List Told) (set : Choice) (heads : Heads) (place : ℕ → ℕ) (m : Removal) (old new : CacheState) → IsCache old → HoldsAll ps set old → IfSome old.current (HeadsAt set heads place) → Drops heads m old new → IfSome new.current (HeadsAt set heads place) }
+    ensures spares { (heads : Heads) (m : Removal) (old new : CacheState) → Drops heads m old new → ahead_in heads new.current ≡ ahead_in heads old.current }
+    ensures less { (heads : Heads) (m : Removal) (old new : CacheState) → IsCache old → Drops heads m old new → back_of heads new < back_of heads old }
 {}

@@ -14,13 +14,15 @@ mod prepared;
 mod removals;
 mod rooms;
 #[cfg(test)]
+mod tables;
+#[cfg(test)]
 mod tests;
 mod views;
 
 pub use cache::{Cache, Joins};
 pub use law::{
-    added_films, chosen_films, fed_films, joined_films, left_films, pruned_films, roomy_films,
-    started_films, switched_films, tidy_films, told_films, viewed_films,
+    added_films, chosen_films, fed_films, joined_films, joined_up_films, left_films, pruned_films,
+    roomy_films, started_films, switched_films, tidy_films, told_films, viewed_films,
 };
 pub use mc_journal::{Cause, Removal};
 pub use mc_packet::NoMemory;

@@ -1,4 +1,4 @@
-use Rattle.mc_cache.proofs.FilmPruned.{pruned_cut, pruned_heads, pruned_holds, pruned_may, pruned_stand}
+use Rattle.mc_cache.proofs.FilmPruned.{pruned_cut, pruned_heads, pruned_holds, pruned_less, pruned_may, pruned_spares, pruned_stand}
 use Rattle.mc_cache.proofs.law.pruned_films.Goals as goal
 
 pub returns-clause-stand : goal.returns-clause-stand
@@ -15,3 +15,9 @@ returns-clause-may c = pruned_may
 
 pub returns-clause-heads : goal.returns-clause-heads
 returns-clause-heads c = pruned_heads
+
+pub returns-clause-spares : goal.returns-clause-spares
+returns-clause-spares c = pruned_spares
+
+pub returns-clause-less : goal.returns-clause-less
+returns-clause-less c = pruned_less

@@ -1,0 +1,89 @@
+//! Times the cache: feeds it packets of two tracks, seeks in it, and prunes all away. Without words
+//! there are a few, and what came of it is printed without times, the same at every run.
+#![tactic(auto)]
+
+mod film;
+mod work;
+
+use std::alloc::Global;
+use std::time::{Clock, Instant};
+use std::{env, io};
+
+const FEW_PACKETS: u32 = 1000;
+
+const FEW_SEEKS: u32 = 10;
+
+// Says how often something was done, and where times are asked for in how many nanoseconds.
+fn tell<R: Print + Clock>(
+    rt: &R,
+    what: &str,
+    count: u64,
+    start: Instant,
+    is_timed: bool,
+) -> io::Result<()> {
+    if !is_timed {
+        return println!(rt; "{what}: {count}");
+    }
+    let nanoseconds = start.elapsed(rt)?.as_nanos();
+    let each = nanoseconds / (count as u128).max(1);
+    println!(rt; "{what}: {count} in {nanoseconds} ns, {each} ns each")
+}
+
+fn run<R: Print + Clock>(
+    rt: &R,
+    alloc: Global,
+    packets: u32,
+    seeks: u32,
+    is_timed: bool,
+) -> io::Result<()> {
+    let mut cache = work::begin(alloc)?;
+    let start = Instant::now(rt)?;
+    let fed = work::feed(alloc, &mut cache, packets)?;
+    tell(rt, "packets fed", fed as u64, start, is_timed)?;
+    let start = Instant::now(rt)?;
+    let served = work::seek(&mut cache, packets, seeks);
+    tell(rt, "seeks served", served as u64, start, is_timed)?;
+    let start = Instant::now(rt)?;
+    let looked = work::seek_and_look(&mut cache, packets, seeks);
+    tell(
+        rt,
+        "seeks served, with a look",
+        looked as u64,
+        start,
+        is_timed,
+    )?;
+    let held = cache.held();
+    let start = Instant::now(rt)?;
+    let _drops = work::prune_all(&mut cache);
+    let left = cache.held();
+    tell(
+        rt,
+        "packets pruned",
+        held.saturating_sub(left),
+        start,
+        is_timed,
+    )?;
+    println!(rt; "packets left: {left}")
+}
+
+// The numbers of packets and of seeks.
+fn numbers(words: &[String]) -> Option<(u32, u32)> {
+    match words {
+        [packets, seeks] => Some((packets.parse().ok()?, seeks.parse().ok()?)),
+        _ => None,
+    }
+}
+
+fn main(rt: HostRuntime) -> io::Result<()> {
+    let mut words = Vec::new(rt.alloc());
+    for word in env::args(&rt)?.skip(1) {
+        words.push(word)?;
+    }
+    if words.is_empty() {
+        return run(&rt, rt.alloc(), FEW_PACKETS, FEW_SEEKS, false);
+    }
+    match numbers(words.as_slice()) {
+        Some((packets, seeks)) => run(&rt, rt.alloc(), packets, seeks, true),
+        None => println!(rt; "cache_bench [PACKETS SEEKS]"),
+    }
+}

@@ -15,3 +15,6 @@ pub use calls::{ClientAnswer, ClientCall};
 pub use client::Client;
 pub use mc_value::NoMemory;
 pub use refusal::{ClientError, Pushed};
+
+#[cfg(test)]
+mod tests;

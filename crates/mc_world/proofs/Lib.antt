@@ -3,3 +3,4 @@ pub mod Parting
 pub mod Chosen
 pub mod Starts
 pub mod Marking
+pub mod Standing

@@ -1,0 +1,6 @@
+pub mod Lying
+pub mod Parting
+pub mod Chosen
+pub mod Starts
+pub mod Marking
+pub mod Standing

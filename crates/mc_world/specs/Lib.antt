@@ -1,0 +1,4 @@
+pub mod Filmed
+pub mod Driving
+pub mod Working
+pub mod Turning

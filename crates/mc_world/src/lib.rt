@@ -1,0 +1,12 @@
+//! The driver of a player: a demuxer, and the cursor and the index that do its jobs over one file.
+#![tactic(auto)]
+
+mod brought;
+mod driver;
+mod law;
+mod turn;
+mod work;
+
+pub use brought::Brought;
+pub use driver::{Driver, DriverError, Turn};
+pub use law::{film_parts, film_starts};

@@ -1,0 +1,135 @@
+//! What the jobs of a demuxer come to: the cursor and the index do them over a shelf.
+ghost use Rattle.std.specs.Prelude.{◌≡◌, ◌≤◌, ◌^◌, ◌<◌, List, ℕ, IsErrOf};
+ghost use Rattle.mc_outside.specs.Causes.{Rose};
+ghost use Rattle.mc_outside.specs.Shelf.{content};
+ghost use Rattle.mc_packet.specs.declared.choice.Choice.{Choice};
+ghost use Rattle.mc_packet.specs.declared.walk.Mark.{Mark};
+ghost use Rattle.mc_walk.specs.Parts.{IsMark};
+ghost use Rattle.mc_cursor.specs.declared.error.CursorError.TheVariants.{ReadFault};
+ghost use Rattle.mc_cursor.specs.Causes.{Keeps};
+ghost use Rattle.mc_cursor.specs.Reads.{Told};
+ghost use Rattle.mc_cursor.specs.Standing.{StandsFor, plan_for, file_of, mark_of, at_mark};
+ghost use Rattle.mc_index.specs.Scans.{OfFilm, StandFor};
+ghost use Rattle.mc_journal.specs.Films.{Film};
+ghost use Rattle.mc_demux.specs.Demuxers.{IsDemux};
+ghost use Rattle.mc_demux.specs.Film.{StandsFor as DemuxStandsFor, failure_record};
+ghost use Rattle.mc_demux.specs.Outcomes.{BringsFailure, Fails};
+ghost use Rattle.mc_demux.specs.Marks.{AreAmong, marks_of};
+ghost use Rattle.mc_world.specs.Working.{AreStarts, IsPart, CountsFit, FailureFits, HasRisenIn, AreSeekStarts, AreSwitchStarts, IsChunkAt, Brings, IsOfFilm, Takes, marks_in};
+
+use crate::brought::Brought;
+use mc_cursor::{Cursor, CursorError};
+use mc_demux::{Demux, DemuxError, Failure, Taken};
+use mc_index::Index;
+use mc_outside::Shelf;
+use mc_packet::{Choice, Dir, Mark, TrackNo};
+
+/// Why a job came to nothing.
+fn failure<S: Shelf>(shelf: &S, before: u64, error: CursorError) -> Failure
+    requires later { before ≤ S.faults shelf.now }
+    requires cause { error ≡ ReadFault → Rose before (S.faults shelf.now) }
+    ensures { FailureFits before (S.faults shelf.now) result }
+{
+    match error {
+        CursorError::ReadFault => Failure::Failed {
+            before,
+            after: shelf.fault_count(),
+        },
+        CursorError::NoMemory => Failure::Starved,
+    }
+}
+
+/// Where the tracks of a set start after a seek.
+pub(crate) fn find_starts<S: Shelf>(
+    cursor: &mut Cursor,
+    index: &mut Index,
+    shelf: &mut S,
+    set: Choice,
+    t: i64,
+    dir: Dir,
+) -> Brought
+    ensures fits { AreStarts set result }
+    ensures film { OfFilm (content (S.files shelf.old) (S.opened shelf.old) (file_of cursor.old)) cursor.old index.old (λ octets. AreSeekStarts (plan_for octets cursor.old) set t dir result) }
+    ensures stands { OfFilm (content (S.files shelf.old) (S.opened shelf.old) (file_of cursor.old)) cursor.old index.old (λ octets. StandFor octets cursor.new index.new) }
+    ensures moves { cursor.new ≡ at_mark cursor.old (mark_of cursor.new) }
+    ensures counts { CountsFit (S.faults shelf.old) (S.faults shelf.new) result }
+    ensures later { S.faults shelf.old ≤ S.faults shelf.new }
+    ensures kept { Keeps (S.files shelf.old) (S.files shelf.new) (S.opened shelf.old) (S.opened shelf.new) (S.reach shelf.old) (S.reach shelf.new) }
+{
+    let before = shelf.fault_count();
+    match index.find(cursor, shelf, set, t, dir) {
+        Ok(starts) => Brought::Starts(starts),
+        Err(error) => Brought::Nothing(failure(shelf, before, error)),
+    }
+}
+
+/// Where tracks that are added start.
+pub(crate) fn find_added<S: Shelf>(
+    cursor: &mut Cursor,
+    index: &mut Index,
+    shelf: &mut S,
+    added: Choice,
+    lead: Option<TrackNo>,
+    at: i64,
+) -> Brought
+    ensures fits { AreStarts added result }
+    ensures film { OfFilm (content (S.files shelf.old) (S.opened shelf.old) (file_of cursor.old)) cursor.old index.old (λ octets. AreSwitchStarts (plan_for octets cursor.old) added lead at result) }
+    ensures stands { OfFilm (content (S.files shelf.old) (S.opened shelf.old) (file_of cursor.old)) cursor.old index.old (λ octets. StandFor octets cursor.new index.new) }
+    ensures moves { cursor.new ≡ at_mark cursor.old (mark_of cursor.new) }
+    ensures counts { CountsFit (S.faults shelf.old) (S.faults shelf.new) result }
+    ensures later { S.faults shelf.old ≤ S.faults shelf.new }
+    ensures kept { Keeps (S.files shelf.old) (S.files shelf.new) (S.opened shelf.old) (S.opened shelf.new) (S.reach shelf.old) (S.reach shelf.new) }
+{
+    let before = shelf.fault_count();
+    match index.find_switch(cursor, shelf, added, lead, at) {
+        Ok(starts) => Brought::Starts(starts),
+        Err(error) => Brought::Nothing(failure(shelf, before, error)),
+    }
+}
+
+/// The part of the film from a mark on.
+pub(crate) fn read_part<S: Shelf>(cursor: &mut Cursor, shelf: &mut S, mark: Mark) -> Brought
+    ensures fits { IsPart mark result }
+    ensures film { Told (content (S.files shelf.old) (S.opened shelf.old) (file_of cursor.old)) (λ octets. StandsFor octets cursor.old → IsMark (plan_for octets cursor.old) mark → IsChunkAt (plan_for octets cursor.old) mark result) }
+    ensures stands { Told (content (S.files shelf.old) (S.opened shelf.old) (file_of cursor.old)) (λ octets. StandsFor octets cursor.old → IsMark (plan_for octets cursor.old) mark → StandsFor octets cursor.new) }
+    ensures moves { cursor.new ≡ at_mark cursor.old (mark_of cursor.new) }
+    ensures counts { CountsFit (S.faults shelf.old) (S.faults shelf.new) result }
+    ensures later { S.faults shelf.old ≤ S.faults shelf.new }
+    ensures kept { Keeps (S.files shelf.old) (S.files shelf.new) (S.opened shelf.old) (S.opened shelf.new) (S.reach shelf.old) (S.reach shelf.new) }
+{
+    let before = shelf.fault_count();
+    cursor.goto(mark);
+    match cursor.next_chunk(shelf) {
+        Ok(chunk) => Brought::Part(chunk),
+        Err(error) => Brought::Nothing(failure(shelf, before, error)),
+    }
+}
+
+/// Tells a demuxer why its job came to nothing.
+fn stop(demux: &mut Demux, no: u64, failure: Failure) -> Taken
+    requires brought { BringsFailure no demux.old × HasRisenIn failure }
+    ensures value { Fails no failure (failure_record failure) demux.old result demux.new }
+    ensures film { (film : Film) → DemuxStandsFor film demux.old → DemuxStandsFor film demux.new }
+    ensures marks { AreAmong (marks_of demux.old.cache) demux.new.cache }
+    ensures demux { IsDemux demux.new }
+{
+    match failure {
+        Failure::Failed { before, after } => demux.failed(no, before, after),
+        Failure::Starved => demux.starved(no),
+    }
+}
+
+/// Brings to a demuxer what its job came to.
+pub(crate) fn bring(demux: &mut Demux, no: u64, brought: Brought) -> Result<Taken, DemuxError>
+    requires brought { Brings no brought demux.old }
+    ensures value { Takes no brought demux.old result demux.new }
+    ensures film { (film : Film) → IsOfFilm film no brought demux.old → DemuxStandsFor film demux.old → DemuxStandsFor film demux.new }
+    ensures marks { AreAmong (marks_in brought (marks_of demux.old.cache)) demux.new.cache }
+    ensures demux { IsDemux demux.new }
+{
+    match brought {
+        Brought::Part(chunk) => demux.feed(no, chunk),
+        Brought::Starts(starts) => demux.found(no, starts),
+        Brought::Nothing(failure) => Ok(stop(demux, no, failure)),
+    }
+}

@@ -1,6 +1,7 @@
 ghost use Rattle.std.specs.Prelude.{◌≡◌};
 ghost use Rattle.mc_script.specs.Exits.{status_of};
 
+use crate::acts::ScriptWhy;
 use mc_journal::DemuxJournal;
 use mc_tracks::Refused;
 use std::fmt;
@@ -28,6 +29,11 @@ pub enum Exit {
     Sink,
     /// The film is refused for what stands before its Clusters.
     File(Refused),
+    /// The script is outside its grammar: the first bad line, counted from 1, or 0 where the text as a
+    /// whole is refused.
+    Script { line: u32, why: ScriptWhy },
+    /// The demuxer's journal has 16,000,000 records.
+    JournalFull,
 }
 
 impl Exit {
@@ -42,6 +48,8 @@ impl Exit {
             Exit::Shelf(_) => 3,
             Exit::Sink => 4,
             Exit::File(_) => 5,
+            Exit::Script { .. } => 6,
+            Exit::JournalFull => 7,
         }
     }
 }
@@ -53,17 +61,22 @@ pub struct RunReport {
     pub hd: DemuxJournal,
 }
 
+const USAGE: &str =
+    "mcplay: usage: mcplay run [--forward=N] [--back=N] [--readahead=N] FILE [SCRIPT]";
+
 /// The line that the program prints on standard error, without its end; nothing for `Done`.
 impl fmt::Display for Exit {
     fn fmt<W: fmt::Write>(&self, f: &mut fmt::Formatter<W>) -> fmt::Result {
         match self {
             Exit::Done => Ok(()),
             Exit::NoMemory => f.write_str("mcplay: out of memory"),
-            Exit::Usage => f.write_str("mcplay: usage: mcplay run FILE"),
+            Exit::Usage => f.write_str(USAGE),
             Exit::Shelf(_) => f.write_str("mcplay: cannot read"),
             Exit::Sink => f.write_str("mcplay: cannot write"),
             Exit::File(Refused::Broken(at)) => write!(f, "mcplay: file refused: Broken {at}"),
             Exit::File(refused) => write!(f, "mcplay: file refused: {refused:?}"),
+            Exit::Script { line, why } => write!(f, "mcplay: script line {line}: {why:?}"),
+            Exit::JournalFull => f.write_str("mcplay: journal full"),
         }
     }
 }

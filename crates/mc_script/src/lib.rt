@@ -26,4 +26,3 @@ pub use options::{RunLine, parse_run_line};
 pub use plays::{worked_scripts, wrong_plays};
 pub use script::parse_script;
 pub use transcript::demux_text;
-pub use words::read_words;

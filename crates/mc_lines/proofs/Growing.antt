@@ -15,7 +15,7 @@ use Rattle.mc_lines.proofs.Counts.{any-one}
 -- ---- failures between two counts
 
 wider : (a b a' b' : ℕ) → a' ≤ a → b ≤ b' → (r : DemuxRecord) → FailsIn a b r → FailsIn a' b' r
-wider a b a' b' l g (Failed by before after) h = (omega (arith, l, h.0), h.1, omega (arith, g, h.2))
+wider a b a' b' l g (Failed by before after) h = (h.0, omega (arith, l, h.1), omega (arith, g, h.2))
 wider a b a' b' l g _ h = tt
 
 all_wider : (a b a' b' : ℕ) → a' ≤ a → b ≤ b' → (rs : List DemuxRecord) → AllByRecursion (FailsIn a b) rs → AllByRecursion (FailsIn a' b') rs

@@ -27,6 +27,7 @@ use Rattle.mc_demux.specs.declared.answer.Peek.{Peek}
 use Rattle.mc_demux.specs.declared.answer.Peek.TheVariants as peeks
 use Rattle.mc_demux.specs.declared.job.Job.{Job}
 use Rattle.mc_demux.specs.declared.job.Job.TheVariants.{SeekTo, Refresh, Resume, Read, Idle}
+use Rattle.mc_demux.specs.Outcomes.{HasRisen}
 use Rattle.mc_demux.specs.Records.{HasRoom, WroteAll}
 use Rattle.mc_script.specs.Plays.{Readings, OfEach, caller, is_order, is_outcome, newest, selection, untold}
 
@@ -115,9 +116,9 @@ Takes w old new j j' (Ok Idle) = (new ≡ old) × (j'.number ≡ j.number) × (w
 Takes w old new j j' (Ok job) = (new ≡ old) × (j'.number ≡ j.number) × (w.idle ≡ false) × (number_of job ≡ Some j.number) × (j'.kept ≡ Some job)
 Takes w old new j j' (Err e) = Fails old new j j' e
 
--- the counts of faults that a failure tells
+-- a failure tells counts of faults between which the shelf's count rose, and which lie in these bounds
 abbrev pub FailsIn : ℕ → ℕ → DemuxRecord → Type 0
-FailsIn least most (Failed by before after) = (least ≤ before) × (before ≤ after) × (after ≤ most)
+FailsIn least most (Failed by before after) = HasRisen before after × (least ≤ before) × (after ≤ most)
 FailsIn least most _ = ⊤
 
 -- the outcome of a job that was done while the count of faults went from one to the other

@@ -44,3 +44,4 @@ pub mod Awaited
 pub mod Adding
 pub mod Placing
 pub mod Starting
+pub mod Beginning

@@ -73,8 +73,7 @@ pub kinds_placed : (set : Choice) (heads : Heads) (r : RangeState) → IsRange r
     → IsPlaced set heads nothing None (Some r)
 kinds_placed set heads r i e v a s =
     let held : QueuesIn set r.mark r.queues = subst (λ (x : Choice). QueuesIn x r.mark r.queues) e i.held in
-    let kinds = set_kinds set heads r i e in
-    (
+    let kinds = set_kinds set heads r i e in (
       record { blank = λ k w. not_nothing k w; queued = λ k h w. (all_there set heads r.queues k kinds v a s h).0 },
       λ k q. (all_there set heads r.queues k kinds v a s (queue_has set r.mark r.queues k held q)).1,
     )

@@ -40,3 +40,4 @@ pub mod FilmRoomy
 pub mod FilmSettled
 pub mod FilmParts
 pub mod Takings
+pub mod Shapes

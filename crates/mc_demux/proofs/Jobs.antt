@@ -86,6 +86,7 @@ keep_demux d job i e room = record {
   known = i.known;
   sets = i.sets;
   placed = i.placed;
+  waits = i.waits;
   numbered = i.numbered;
   kept = subst (λ (x : Job). IfSome (kept_job x) (KeepsJob (record d { kept = kept_job job }))) (sym e) (job_kept d (kept_job job) room);
   within = i.within;

@@ -41,3 +41,8 @@ pub mod FilmSettled
 pub mod FilmParts
 pub mod Takings
 pub mod Shapes
+pub mod Awaited
+pub mod Adding
+pub mod Placing
+pub mod Starting
+pub mod Beginning

@@ -26,10 +26,11 @@ use Rattle.mc_cache.specs.Pruning.{back_of}
 use Rattle.mc_demux.specs.declared.job.Job.{Job}
 use Rattle.mc_demux.specs.declared.job.Job.TheVariants.{SeekTo, Refresh, Resume, Read, Idle}
 use Rattle.mc_demux.specs.State.{DemuxState, forward_of}
-use Rattle.mc_demux.specs.Demuxers.{AreLimits, IsDemux, KeepsJob, heaviest}
+use Rattle.mc_demux.specs.Demuxers.{AreAwaited, AreLimits, IsDemux, KeepsJob, heaviest}
 use Rattle.mc_demux.specs.Outcomes.{PartFits, is_at, took_in}
 use Rattle.mc_demux.specs.Feeding.{TakesPart}
 use Rattle.mc_demux.proofs.SameTracks.{SameTracks, fed_tracks, placed_same}
+use Rattle.mc_demux.proofs.Awaited.{none_await}
 use Rattle.mc_demux.proofs.Settled.{longer, settled}
 
 -- ---- what is so where a part is awaited
@@ -270,6 +271,7 @@ part_is old chunk own fed c j spare b i k h ifed f s ic within =
       known = i.known;
       sets = d.sets (fed_sets old.set chunk old.cache fed f i.sets);
       placed = d.placed (placed_same old.set old.heads old.waiting old.seeking old.cache.current fed.current g.same i.placed);
+      waits = subst (λ (w : Choice). AreAwaited old.set w c.others) (sym r.none_waits) (none_await old.set c.others);
       numbered = omega arith;
       kept = tt;
       within = within;

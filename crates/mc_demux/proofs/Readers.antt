@@ -30,6 +30,7 @@ use Rattle.mc_demux.specs.Demuxers.{AreLimits, IsDemux, IsKept, IsPlaced, KeepsJ
 use Rattle.mc_demux.specs.Readings.{past, with_head}
 use Rattle.mc_demux.specs.Trimming.{Trims}
 use Rattle.mc_demux.proofs.Giving.{rank-past, moved_same, moved_other}
+use Rattle.mc_demux.proofs.Awaited.{less_await}
 use Rattle.mc_demux.proofs.Trimmed.{IsTrimmed, trimmed}
 
 -- ---- it is a demuxer
@@ -106,6 +107,7 @@ gives_is old by own heads ended c j spare i p a t ic w r =
       known = i.known;
       sets = d.sets i.sets;
       placed = d.placed p;
+      waits = less_await old.set old.waiting old.cache.others c.others i.waits d.alone;
       numbered = omega arith;
       kept = keeps_job old heads ended c j spare old.kept d.mark_is d.ending_is less lim r i.kept;
       within = w;

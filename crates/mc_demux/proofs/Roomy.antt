@@ -23,7 +23,7 @@ use Rattle.mc_cache.proofs.United.{roomier_weighs}
 use Rattle.mc_demux.specs.declared.job.Job.{Job}
 use Rattle.mc_demux.specs.declared.job.Job.TheVariants.{SeekTo, Refresh, Resume, Read, Idle}
 use Rattle.mc_demux.specs.State.{DemuxState}
-use Rattle.mc_demux.specs.Demuxers.{AreLimits, IsDemux, IsKept, KeepsJob, heaviest}
+use Rattle.mc_demux.specs.Demuxers.{AreAwaited, AreLimits, IsDemux, IsKept, KeepsJob, heaviest}
 use Rattle.mc_demux.proofs.SameTracks.{SameTracks, placed_same, roomier_tracks, same_both}
 use Rattle.mc_demux.proofs.Tied.{roomier_counts, tied}
 
@@ -155,6 +155,7 @@ roomy_is old c n s ic more i =
       known = i.known;
       sets = sets_same old.set old.cache c s i.sets;
       placed = placed_same old.set old.heads old.waiting old.seeking old.cache.current c.current (roomier_current old.cache.current c.current s.current) i.placed;
+      waits = subst (λ (rs : List RangeState). AreAwaited old.set old.waiting rs) (sym s.others_is) i.waits;
       numbered = i.numbered;
       kept = kept_roomy old c n old.kept s more i.kept;
       within = subst (λ (l : Limits). back_of old.heads c ≤ l.back) (sym e) behind;

@@ -21,7 +21,8 @@ use Rattle.mc_range.specs.declared.queues.Queues.{Queues}
 use Rattle.mc_range.specs.Range.{RangeState, own, queue_of}
 use Rattle.mc_range.specs.Cutting.{bound_under, weight_ahead, weight_from}
 use Rattle.mc_cache.specs.Cache.{CacheState, IsCache, count_of, ending_in, mark_in, ranges_of, weight_of}
-use Rattle.mc_cache.specs.Pruning.{Drops, Prunes, ahead_in}
+use Rattle.mc_range.specs.declared.cutting.Cut.{Cut}
+use Rattle.mc_cache.specs.Pruning.{CutsRange, Drops, Prunes, ahead_in}
 use Rattle.mc_demux.specs.declared.waiting.Target.{Target}
 use Rattle.mc_demux.specs.State.{head_of}
 use Rattle.mc_demux.specs.Demuxers.{IsPlaced, AreQueued, HaveHeads}
@@ -102,6 +103,7 @@ pub record IsTrimmed (by : ℕ) (set : Choice) (heads : Heads) (waiting : Choice
     (j' : List DemuxRecord) : Type 0 where
   pub placed : IsPlaced set heads waiting seeking old.current → IsPlaced set heads waiting seeking new.current
   pub sets : AllByRecursion (λ r. r.set ≡ set) (ranges_of old) → AllByRecursion (λ r. r.set ≡ set) (ranges_of new)
+  pub alone : old.others ≡ [] → new.others ≡ []
   pub lighter : weight_of (ranges_of new) ≤ weight_of (ranges_of old)
   pub ahead : ahead_in heads new.current ≡ ahead_in heads old.current
   pub mark_is : mark_in new.current ≡ mark_in old.current
@@ -122,11 +124,17 @@ append_none (x ∷ xs) = ap (λ ys. x ∷ ys) (append_none xs)
 limit_told : (by : ℕ) (heads : Heads) (m : Removal) (old new : CacheState) → Drops heads m old new → IsLimitDrop by (Dropped by m)
 limit_told by heads m old new d = (refl, subst (λ (x : Removal). IsLimit x.cause) (sym d.told) tt)
 
+-- without others none comes
+cut_alone : (heads : Heads) (o : Option RangeState) (rs : List RangeState) (n : Option RangeState) (ns : List RangeState) (c : Cut) → rs ≡ [] → CutsRange heads o rs n ns c → ns ≡ []
+cut_alone heads o [] n ns c e x = x.1
+cut_alone heads o (r ∷ rs) n ns c e x = absurd (cc)
+
 pub trimmed : (by : ℕ) (set : Choice) (heads : Heads) (waiting : Choice) (seeking : Option Target) (c₀ : CacheState) (j₀ : List DemuxRecord) (c : CacheState) (j : List DemuxRecord)
     → Trims by heads c₀ j₀ c j → IsTrimmed by set heads waiting seeking c₀ j₀ c j
 trimmed by set heads waiting seeking c₀ j₀ _ _ none = record {
   placed = λ p. p;
   sets = λ p. p;
+  alone = λ p. p;
   lighter = omega arith;
   ahead = refl;
   mark_is = refl;
@@ -144,6 +152,7 @@ trimmed by set heads waiting seeking c₀ j₀ _ _ (more c j m c' t i d) =
     record {
       placed = λ p. placed_less set heads waiting seeking c.current c'.current less.current (before.placed p);
       sets = λ p. less.ranges.sets (before.sets p);
+      alone = λ p. cut_alone heads c.current c.others c'.current c'.others d.cut (before.alone p) d.ranges;
       lighter = omega arith;
       ahead = ahead_less heads c.current c'.current less.current ∙ before.ahead;
       mark_is = mark_less heads c.current c'.current less.current ∙ before.mark_is;

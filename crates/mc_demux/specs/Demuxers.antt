@@ -1,5 +1,5 @@
 -- What is true of every demuxer.
-use Rattle.std.specs.Prelude.{◌≡◌, ℕ, ◌+◌, ◌*◌, ◌≤◌, ◌<◌, ◌^◌, ◌==◌, Bool, true, false, ◌||◌, List, length, Option, Some, None, ℤ, pos, ◌≤ℤ◌, IfSome, IsSomeAnd, is_some, ⊤}
+use Rattle.std.specs.Prelude.{◌≡◌, ℕ, ◌+◌, ◌*◌, ◌≤◌, ◌<◌, ◌^◌, ◌==◌, Bool, true, false, ◌||◌, List, [], length, Option, Some, None, ℤ, pos, ◌≤ℤ◌, IfSome, IsSomeAnd, is_some, ⊤}
 use Rattle.std.specs.List.{AllByRecursion}
 use Rattle.mc_packet.specs.declared.choice.Choice.{Choice}
 use Rattle.mc_packet.specs.declared.cache.Heads.{Heads}
@@ -45,6 +45,19 @@ IsPlaced set heads waiting (Some s) current = (current ≡ None) × (waiting ≡
 IsPlaced set heads waiting None None = waiting ≡ set
 IsPlaced set heads waiting None (Some r) = AreQueued set waiting r × HaveHeads set heads r
 
+-- ---- the tracks that wait
+
+-- a kind's track that waits is the selected one
+abbrev pub IsSelected : Option ℕ → Option ℕ → Type 0
+IsSelected selected waiting = IfSome waiting (λ track. selected ≡ Some track)
+
+-- they are selected, each under its kind, and while some wait no other range stands beside the current one
+pub record AreAwaited (set waiting : Choice) (others : List RangeState) : Type 0 where
+  pub video : IsSelected set.video waiting.video
+  pub audio : IsSelected set.audio waiting.audio
+  pub sub : IsSelected set.sub waiting.sub
+  pub alone : is_empty waiting ≡ false → others ≡ []
+
 -- ---- the job that is kept
 
 -- it is the one that is to be done, until its outcome, a seek or a selection comes
@@ -72,6 +85,7 @@ pub record IsDemux (d : DemuxState) : Type 0 where
   pub known : is_known (knows d.list) d.set ≡ true
   pub sets : AllByRecursion (λ r. r.set ≡ d.set) (ranges_of d.cache)
   pub placed : IsPlaced d.set d.heads d.waiting d.seeking d.cache.current
+  pub waits : AreAwaited d.set d.waiting d.cache.others
   pub numbered : d.number ≤ length d.journal
   pub kept : IfSome d.kept (KeepsJob d)
   pub within : back_of d ≤ d.cache.limits.back

@@ -11,6 +11,7 @@ pub mod Records
 pub mod Trimming
 pub mod Settling
 pub mod Feeding
+pub mod Finding
 pub mod Readings
 pub mod Seeking
 pub mod Selecting

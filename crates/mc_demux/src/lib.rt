@@ -6,6 +6,7 @@ mod asking;
 mod choosing;
 mod demux;
 mod feeding;
+mod finding;
 mod job;
 mod joining;
 mod law;

@@ -40,6 +40,7 @@ pub mod FilmRoomy
 pub mod FilmSettled
 pub mod FilmParts
 pub mod Takings
+pub mod Shapes
 pub mod Awaited
 pub mod Adding
 pub mod Placing

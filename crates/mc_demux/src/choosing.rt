@@ -20,7 +20,7 @@ fn is_listed(list: &TrackList, no: TrackNo) -> bool
     list.get(no).is_some()
 }
 
-fn is_coded(list: &TrackList, no: TrackNo) -> bool
+pub(crate) fn is_coded(list: &TrackList, no: TrackNo) -> bool
     ensures { result ≡ is_coded (numbered no list.now) }
 {
     match list.get(no) {
@@ -29,7 +29,7 @@ fn is_coded(list: &TrackList, no: TrackNo) -> bool
     }
 }
 
-fn is_listed_as(list: &TrackList, kind: Kind, no: TrackNo) -> bool
+pub(crate) fn is_listed_as(list: &TrackList, kind: Kind, no: TrackNo) -> bool
     ensures { result ≡ is_listed_as kind (numbered no list.now) }
 {
     match list.get(no) {

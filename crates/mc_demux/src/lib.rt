@@ -26,3 +26,6 @@ pub use demux::{Demux, DemuxJournal};
 pub use job::Job;
 pub use law::{resting_readers, standing_journals};
 pub use waiting::{Failure, Switch, Target};
+
+#[cfg(test)]
+mod tests;

@@ -4,3 +4,5 @@ pub mod Chosen
 pub mod Starts
 pub mod Marking
 pub mod Standing
+pub mod Calling
+pub mod Turning

@@ -79,7 +79,7 @@ further : (m : Mark) (marks : List Mark) (rs : List RangeState) → AllByRecursi
 further m marks [] h = tt
 further m marks (r ∷ rs) h = (Contains-append_right (m ∷ []) marks r.mark h.0, further m marks rs h.1)
 
-own-marks : (rs : List RangeState) → AllByRecursion (λ (r : RangeState). Contains (map (λ (q : RangeState). q.mark) rs) r.mark) rs
+pub own-marks : (rs : List RangeState) → AllByRecursion (λ (r : RangeState). Contains (map (λ (q : RangeState). q.mark) rs) r.mark) rs
 own-marks [] = tt
 own-marks (r ∷ rs) =
     let marks = map (λ (q : RangeState). q.mark) rs in

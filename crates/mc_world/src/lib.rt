@@ -2,6 +2,7 @@
 #![tactic(auto)]
 
 mod brought;
+mod calls;
 mod driver;
 mod law;
 mod turn;

@@ -19,7 +19,7 @@ use Rattle.mc_script.specs.declared.acts.Act.TheVariants as acts
 use Rattle.mc_script.specs.Plays.{Asks, Begins, Leaves, May, Readings, caller, gaves, is_answer, is_gave, reader, selection, track_of}
 use Rattle.mc_lines.specs.declared.halt.Halt.{Halt}
 use Rattle.mc_lines.specs.declared.halt.Halt.TheVariants as halts
-use Rattle.mc_lines.specs.Calls.{Ahead, Jobs, NoPacket, Reads, at}
+use Rattle.mc_lines.specs.Calls.{Ahead, Jobs, LeavesNone, Reads, at}
 use Rattle.mc_lines.specs.Lines.{Orders, Stands, halt_of, is_packet}
 use Rattle.mc_lines.proofs.Parts.{begin, more}
 use Rattle.mc_lines.proofs.Counts.{any-one, count-one}
@@ -45,7 +45,7 @@ may_give rd kind count old a k p e ask front =
     (subst (λ (n : ℕ). Asks kind count old a (reader kind) n) (sym e) ask, subst (λ (n : ℕ). rd.front (old ++ a) n ≡ Some (rank p.pos)) (sym e) front)
 
 pub next : (rd : Readings) (kind : Kind) (count : ℕ) (old now new : List DemuxRecord) (n k : ℕ) (r : Reading) (t : Given rd kind count old now n) → track_of (selection old) kind ≡ Some k → n < count
-    → Reads (at rd now) (at rd new) (reader kind) k now new (Ok r) → is_packet r ≡ true → Given rd kind count old new (n + 1)
+    → Reads (at rd now) (reader kind) k now new (Ok r) → is_packet r ≡ true → Given rd kind count old new (n + 1)
 next rd kind count old now new n k (reads.Gave p) t track lt h is =
     let w : WroteAll (reader kind) (gave_by (reader kind) p ∷ []) now new = h.2.1 in
     let front : rd.front (old ++ t.begins.part) k ≡ Some (rank p.pos) = rw (← t.begins.grows) h.1 in
@@ -62,39 +62,39 @@ no_head rd old part now k o e grows h = rw (e, ← grows) h
 
 -- a line that ends without a record
 quiet : (rd : Readings) (kind : Kind) (count : ℕ) (old now new : List DemuxRecord) (n k : ℕ) (t : Given rd kind count old now n) → track_of (selection old) kind ≡ Some k
-    → NoPacket (at rd now) (at rd new) k → new ≡ now → Leaves rd (acts.Read kind count) None old new
+    → rd.front now k ≡ None → new ≡ now → Leaves rd (acts.Read kind count) None old new
 quiet rd kind count old now new n k t track none e = record {
   part = t.begins.part;
   grows = e ∙ t.begins.grows;
   each = t.begins.each;
-  ends = inr (no_head rd old t.begins.part now k (track_of (selection old) kind) track t.begins.grows none.before);
+  ends = inr (no_head rd old t.begins.part now k (track_of (selection old) kind) track t.begins.grows none);
 }
 
 -- a line that ends with one
 told : (rd : Readings) (kind : Kind) (count : ℕ) (old now new : List DemuxRecord) (k : ℕ) (own : DemuxRecord) (b : Begins rd (acts.Read kind count) old now) → track_of (selection old) kind ≡ Some k
-    → NoPacket (at rd now) (at rd new) k → (w : WroteAll (reader kind) (own ∷ []) now new) → reader kind ≡ caller own → May rd (acts.Read kind count) old b.part own
+    → rd.front new k ≡ None → (w : WroteAll (reader kind) (own ∷ []) now new) → reader kind ≡ caller own → May rd (acts.Read kind count) old b.part own
     → Leaves rd (acts.Read kind count) None old new
 told rd kind count old now new k own b track none w c may =
     let all = more rd (acts.Read kind count) old now new (reader kind) own b w c may in record {
       part = all.part;
       grows = all.grows;
       each = all.each;
-      ends = inr (no_head rd old all.part new k (track_of (selection old) kind) track all.grows none.after);
+      ends = inr (no_head rd old all.part new k (track_of (selection old) kind) track all.grows none);
     }
 
 pub last : (rd : Readings) (kind : Kind) (count : ℕ) (old now new : List DemuxRecord) (n k : ℕ) (r : Reading) (t : Given rd kind count old now n) → track_of (selection old) kind ≡ Some k → n < count
-    → Reads (at rd now) (at rd new) (reader kind) k now new (Ok r) → is_packet r ≡ false → Leaves rd (acts.Read kind count) None old new
-last rd kind count old now new n k (reads.Gave p) t track lt h is = absurd (cc)
-last rd kind count old now new n k reads.NotYet t track lt h is = quiet rd kind count old now new n k t track h.0 h.2
-last rd kind count old now new n k reads.Unselected t track lt h is = quiet rd kind count old now new n k t track h.0 h.2
-last rd kind count old now new n k (reads.End ending) t track lt h is =
-    told rd kind count old now new k (Ended (reader kind) k ending) t.begins track h.0 h.2.1 refl (asks rd kind count old now n k t track lt, rw (← t.begins.grows) h.0.before)
-last rd kind count old now new n k (reads.Overfull forward max) t track lt h is =
-    told rd kind count old now new k (Overfull (reader kind) k forward max) t.begins track h.0 h.2.1 refl (asks rd kind count old now n k t track lt, rw (← t.begins.grows) h.0.before)
-last rd kind count old now new n k (reads.Fault faults faults') t track lt h is =
-    told rd kind count old now new k (Faulted (reader kind) k faults faults') t.begins track h.0 h.2.1 refl (asks rd kind count old now n k t track lt, rw (← t.begins.grows) h.0.before)
-last rd kind count old now new n k reads.Wanting t track lt h is =
-    told rd kind count old now new k (Wanting (reader kind) k) t.begins track h.0 h.2.1 refl (asks rd kind count old now n k t track lt, rw (← t.begins.grows) h.0.before)
+    → Reads (at rd now) (reader kind) k now new (Ok r) → LeavesNone rd k now new (Ok r) → is_packet r ≡ false → Leaves rd (acts.Read kind count) None old new
+last rd kind count old now new n k (reads.Gave p) t track lt h a is = absurd (cc)
+last rd kind count old now new n k reads.NotYet t track lt h a is = quiet rd kind count old now new n k t track h.0 h.2
+last rd kind count old now new n k reads.Unselected t track lt h a is = quiet rd kind count old now new n k t track h.0 h.2
+last rd kind count old now new n k (reads.End ending) t track lt h a is =
+    told rd kind count old now new k (Ended (reader kind) k ending) t.begins track (a h.0) h.2.1 refl (asks rd kind count old now n k t track lt, rw (← t.begins.grows) h.0)
+last rd kind count old now new n k (reads.Overfull forward max) t track lt h a is =
+    told rd kind count old now new k (Overfull (reader kind) k forward max) t.begins track (a h.0) h.2.1 refl (asks rd kind count old now n k t track lt, rw (← t.begins.grows) h.0)
+last rd kind count old now new n k (reads.Fault faults faults') t track lt h a is =
+    told rd kind count old now new k (Faulted (reader kind) k faults faults') t.begins track (a h.0) h.2.1 refl (asks rd kind count old now n k t track lt, rw (← t.begins.grows) h.0)
+last rd kind count old now new n k reads.Wanting t track lt h a is =
+    told rd kind count old now new k (Wanting (reader kind) k) t.begins track (a h.0) h.2.1 refl (asks rd kind count old now n k t track lt, rw (← t.begins.grows) h.0)
 
 pub all_given : (rd : Readings) (kind : Kind) (count : ℕ) (old now : List DemuxRecord) (n : ℕ) → Given rd kind count old now n → n ≡ count → Leaves rd (acts.Read kind count) None old now
 all_given rd kind count old now n t e = record { part = t.begins.part; grows = t.begins.grows; each = t.begins.each; ends = inl (t.so_many ∙ e) }
@@ -103,23 +103,23 @@ pub unselected : (rd : Readings) (kind : Kind) (count : ℕ) (old : List DemuxRe
 unselected rd kind count old e = record { part = []; grows = sym (append-nil old); each = tt; ends = inr (rw e tt) }
 
 -- a read writes no order, whatever a film says
-pub read_orders : (w w' : Ahead) (by k : ℕ) (old new : List DemuxRecord) (j j' : Jobs) (r : Result Reading DemuxError) → j' ≡ j → Reads w w' by k old new r → Orders old new j j'
-read_orders w w' by k old new j j' (Ok (reads.Gave p)) e h = orders_quiet by (gave_by by p) old new j j' refl refl h.2.1 e
-read_orders w w' by k old new j j' (Ok reads.NotYet) e h = orders_none old new j j' h.2 e
-read_orders w w' by k old new j j' (Ok reads.Unselected) e h = orders_none old new j j' h.2 e
-read_orders w w' by k old new j j' (Ok (reads.End ending)) e h = orders_quiet by (Ended by k ending) old new j j' refl refl h.2.1 e
-read_orders w w' by k old new j j' (Ok (reads.Overfull forward max)) e h = orders_quiet by (Overfull by k forward max) old new j j' refl refl h.2.1 e
-read_orders w w' by k old new j j' (Ok (reads.Fault faults faults')) e h = orders_quiet by (Faulted by k faults faults') old new j j' refl refl h.2.1 e
-read_orders w w' by k old new j j' (Ok reads.Wanting) e h = orders_quiet by (Wanting by k) old new j j' refl refl h.2.1 e
-read_orders w w' by k old new j j' (Err (errors.Refused why)) e h = absurd h
-read_orders w w' by k old new j j' (Err errors.JournalFull) e h = orders_none old new j j' h.0 e
-read_orders w w' by k old new j j' (Err errors.NoMemory) e h = orders_none old new j j' h e
+pub read_orders : (w : Ahead) (by k : ℕ) (old new : List DemuxRecord) (j j' : Jobs) (r : Result Reading DemuxError) → j' ≡ j → Reads w by k old new r → Orders old new j j'
+read_orders w by k old new j j' (Ok (reads.Gave p)) e h = orders_quiet by (gave_by by p) old new j j' refl refl h.2.1 e
+read_orders w by k old new j j' (Ok reads.NotYet) e h = orders_none old new j j' h.2 e
+read_orders w by k old new j j' (Ok reads.Unselected) e h = orders_none old new j j' h.2 e
+read_orders w by k old new j j' (Ok (reads.End ending)) e h = orders_quiet by (Ended by k ending) old new j j' refl refl h.2.1 e
+read_orders w by k old new j j' (Ok (reads.Overfull forward max)) e h = orders_quiet by (Overfull by k forward max) old new j j' refl refl h.2.1 e
+read_orders w by k old new j j' (Ok (reads.Fault faults faults')) e h = orders_quiet by (Faulted by k faults faults') old new j j' refl refl h.2.1 e
+read_orders w by k old new j j' (Ok reads.Wanting) e h = orders_quiet by (Wanting by k) old new j j' refl refl h.2.1 e
+read_orders w by k old new j j' (Err (errors.Refused why)) e h = absurd h
+read_orders w by k old new j j' (Err errors.JournalFull) e h = orders_none old new j j' h.0 e
+read_orders w by k old new j j' (Err errors.NoMemory) e h = orders_none old new j j' h e
 
 -- a read that failed wrote nothing
-pub read_stands : (w w' : Ahead) (by k : ℕ) (old new : List DemuxRecord) (e : DemuxError) → Reads w w' by k old new (Err e) → Stands old new (halt_of e)
-read_stands w w' by k old new (errors.Refused why) h = absurd h
-read_stands w w' by k old new errors.JournalFull h = h
-read_stands w w' by k old new errors.NoMemory h = h
+pub read_stands : (w : Ahead) (by k : ℕ) (old new : List DemuxRecord) (e : DemuxError) → Reads w by k old new (Err e) → Stands old new (halt_of e)
+read_stands w by k old new (errors.Refused why) h = absurd h
+read_stands w by k old new errors.JournalFull h = h
+read_stands w by k old new errors.NoMemory h = h
 
 -- the track that is read is the one that the journal says
 pub track_read : (w : Ahead) (rd : Readings) (old : List DemuxRecord) (set : Choice) (found : Option ℕ) (kind : Kind) → w ≡ at rd old → set ≡ w.set → found ≡ track_of set kind → track_of (selection old) kind ≡ found

@@ -160,19 +160,19 @@ gave_packet rd old now new left kind k p same d n front w =
     )
 
 pub gave : (rd : Readings) (old now new : List DemuxRecord) (left : Choice) (kind : Kind) (k : ℕ) (r : Reading) → Drained rd old now left → IsNextBy (at rd now) left (nexts.Give kind k)
-    → Reads (at rd now) (at rd new) (reader kind) k now new (Ok r) → Drained rd old new left
+    → Reads (at rd now) (reader kind) k now new (Ok r) → Drained rd old new left
 gave rd old now new left kind k (reads.Gave p) d n h = gave_packet rd old now new left kind k p h.0 d n h.1 h.2.1
-gave rd old now new left kind k reads.NotYet d n h = let e = sym n.1.1 ∙ h.0.before in absurd (cc)
-gave rd old now new left kind k reads.Unselected d n h = let e = sym n.1.1 ∙ h.0.before in absurd (cc)
-gave rd old now new left kind k (reads.End ending) d n h = let e = sym n.1.1 ∙ h.0.before in absurd (cc)
-gave rd old now new left kind k (reads.Overfull forward max) d n h = let e = sym n.1.1 ∙ h.0.before in absurd (cc)
-gave rd old now new left kind k (reads.Fault faults faults') d n h = let e = sym n.1.1 ∙ h.0.before in absurd (cc)
-gave rd old now new left kind k reads.Wanting d n h = let e = sym n.1.1 ∙ h.0.before in absurd (cc)
+gave rd old now new left kind k reads.NotYet d n h = let e = sym n.1.1 ∙ h.0 in absurd (cc)
+gave rd old now new left kind k reads.Unselected d n h = let e = sym n.1.1 ∙ h.0 in absurd (cc)
+gave rd old now new left kind k (reads.End ending) d n h = let e = sym n.1.1 ∙ h.0 in absurd (cc)
+gave rd old now new left kind k (reads.Overfull forward max) d n h = let e = sym n.1.1 ∙ h.0 in absurd (cc)
+gave rd old now new left kind k (reads.Fault faults faults') d n h = let e = sym n.1.1 ∙ h.0 in absurd (cc)
+gave rd old now new left kind k reads.Wanting d n h = let e = sym n.1.1 ∙ h.0 in absurd (cc)
 
 -- ---- where an end or a failure is told
 
 pub told : (rd : Readings) (old now new : List DemuxRecord) (left : Choice) (kind : Kind) (k : ℕ) (r : Reading) → Drained rd old now left → IsNextBy (at rd now) left (nexts.Tell kind k)
-    → Reads (at rd now) (at rd new) (reader kind) k now new (Ok r) → Drained rd old new (without left kind)
+    → Reads (at rd now) (reader kind) k now new (Ok r) → Drained rd old new (without left kind)
 told rd old now new left kind k (reads.Gave p) d n h = let e = sym (of_each left kind k (λ j. rd.front now j ≡ None) n.1 n.0) ∙ h.1 in absurd (cc)
 told rd old now new left kind k reads.NotYet d n h = let e = sym n.2 ∙ h.1 in absurd (cc)
 told rd old now new left kind k reads.Unselected d n h = let e = sym n.2 ∙ h.1 in absurd (cc)
@@ -231,47 +231,47 @@ finished rd old now left d e = record {
 -- ---- the end of it, on any shelf
 
 -- a read that was seen to give a packet, or to tell an end or a failure, writes a record where it answers
-pub given_room : (w w' : Ahead) (by k : ℕ) (left : Choice) (kind : Kind) (now new : List DemuxRecord) (r : Reading) → IsNextBy w left (nexts.Give kind k) → Reads w w' by k now new (Ok r) → room new < room now
-given_room w w' by k left kind now new (reads.Gave p) n h = less_room h.2.0 h.2.1
-given_room w w' by k left kind now new reads.NotYet n h = let e = sym n.1.1 ∙ h.0.before in absurd (cc)
-given_room w w' by k left kind now new reads.Unselected n h = let e = sym n.1.1 ∙ h.0.before in absurd (cc)
-given_room w w' by k left kind now new (reads.End ending) n h = less_room h.2.0 h.2.1
-given_room w w' by k left kind now new (reads.Overfull forward max) n h = less_room h.2.0 h.2.1
-given_room w w' by k left kind now new (reads.Fault faults faults') n h = less_room h.2.0 h.2.1
-given_room w w' by k left kind now new reads.Wanting n h = less_room h.2.0 h.2.1
+pub given_room : (w : Ahead) (by k : ℕ) (left : Choice) (kind : Kind) (now new : List DemuxRecord) (r : Reading) → IsNextBy w left (nexts.Give kind k) → Reads w by k now new (Ok r) → room new < room now
+given_room w by k left kind now new (reads.Gave p) n h = less_room h.2.0 h.2.1
+given_room w by k left kind now new reads.NotYet n h = let e = sym n.1.1 ∙ h.0 in absurd (cc)
+given_room w by k left kind now new reads.Unselected n h = let e = sym n.1.1 ∙ h.0 in absurd (cc)
+given_room w by k left kind now new (reads.End ending) n h = less_room h.2.0 h.2.1
+given_room w by k left kind now new (reads.Overfull forward max) n h = less_room h.2.0 h.2.1
+given_room w by k left kind now new (reads.Fault faults faults') n h = less_room h.2.0 h.2.1
+given_room w by k left kind now new reads.Wanting n h = less_room h.2.0 h.2.1
 
-pub told_room : (w w' : Ahead) (by k : ℕ) (left : Choice) (kind : Kind) (now new : List DemuxRecord) (r : Reading) → IsNextBy w left (nexts.Tell kind k) → Reads w w' by k now new (Ok r) → room new < room now
-told_room w w' by k left kind now new (reads.Gave p) n h = less_room h.2.0 h.2.1
-told_room w w' by k left kind now new reads.NotYet n h = let e = sym n.2 ∙ h.1 in absurd (cc)
-told_room w w' by k left kind now new reads.Unselected n h = let e = sym n.2 ∙ h.1 in absurd (cc)
-told_room w w' by k left kind now new (reads.End ending) n h = less_room h.2.0 h.2.1
-told_room w w' by k left kind now new (reads.Overfull forward max) n h = less_room h.2.0 h.2.1
-told_room w w' by k left kind now new (reads.Fault faults faults') n h = less_room h.2.0 h.2.1
-told_room w w' by k left kind now new reads.Wanting n h = less_room h.2.0 h.2.1
+pub told_room : (w : Ahead) (by k : ℕ) (left : Choice) (kind : Kind) (now new : List DemuxRecord) (r : Reading) → IsNextBy w left (nexts.Tell kind k) → Reads w by k now new (Ok r) → room new < room now
+told_room w by k left kind now new (reads.Gave p) n h = less_room h.2.0 h.2.1
+told_room w by k left kind now new reads.NotYet n h = let e = sym n.2 ∙ h.1 in absurd (cc)
+told_room w by k left kind now new reads.Unselected n h = let e = sym n.2 ∙ h.1 in absurd (cc)
+told_room w by k left kind now new (reads.End ending) n h = less_room h.2.0 h.2.1
+told_room w by k left kind now new (reads.Overfull forward max) n h = less_room h.2.0 h.2.1
+told_room w by k left kind now new (reads.Fault faults faults') n h = less_room h.2.0 h.2.1
+told_room w by k left kind now new reads.Wanting n h = less_room h.2.0 h.2.1
 
 pub turned_room : (w : Ahead) (before after : ℕ) (now new : List DemuxRecord) → Turns w before after now new (Ok true) → room new < room now
 turned_room w before after now new h = less_room h.0 h.1.wrote
 
 -- a read brings no outcome
-pub read_grows : (w w' : Ahead) (by k a : ℕ) (old new : List DemuxRecord) (r : Result Reading DemuxError) → Reads w w' by k old new r → Grows a a old new
-read_grows w w' by k a old new (Ok (reads.Gave p)) h = grows_quiet a by (gave_by by p) old new refl h.2.1
-read_grows w w' by k a old new (Ok reads.NotYet) h = grows_none a a old new (omega arith) h.2
-read_grows w w' by k a old new (Ok reads.Unselected) h = grows_none a a old new (omega arith) h.2
-read_grows w w' by k a old new (Ok (reads.End ending)) h = grows_quiet a by (Ended by k ending) old new refl h.2.1
-read_grows w w' by k a old new (Ok (reads.Overfull forward max)) h = grows_quiet a by _ old new refl h.2.1
-read_grows w w' by k a old new (Ok (reads.Fault faults faults')) h = grows_quiet a by (Faulted by k faults faults') old new refl h.2.1
-read_grows w w' by k a old new (Ok reads.Wanting) h = grows_quiet a by (Wanting by k) old new refl h.2.1
-read_grows w w' by k a old new (Err (errors.Refused why)) h = absurd h
-read_grows w w' by k a old new (Err errors.JournalFull) h = grows_none a a old new (omega arith) h.0
-read_grows w w' by k a old new (Err errors.NoMemory) h = grows_none a a old new (omega arith) h
+pub read_grows : (w : Ahead) (by k a : ℕ) (old new : List DemuxRecord) (r : Result Reading DemuxError) → Reads w by k old new r → Grows a a old new
+read_grows w by k a old new (Ok (reads.Gave p)) h = grows_quiet a by (gave_by by p) old new refl h.2.1
+read_grows w by k a old new (Ok reads.NotYet) h = grows_none a a old new (omega arith) h.2
+read_grows w by k a old new (Ok reads.Unselected) h = grows_none a a old new (omega arith) h.2
+read_grows w by k a old new (Ok (reads.End ending)) h = grows_quiet a by (Ended by k ending) old new refl h.2.1
+read_grows w by k a old new (Ok (reads.Overfull forward max)) h = grows_quiet a by _ old new refl h.2.1
+read_grows w by k a old new (Ok (reads.Fault faults faults')) h = grows_quiet a by (Faulted by k faults faults') old new refl h.2.1
+read_grows w by k a old new (Ok reads.Wanting) h = grows_quiet a by (Wanting by k) old new refl h.2.1
+read_grows w by k a old new (Err (errors.Refused why)) h = absurd h
+read_grows w by k a old new (Err errors.JournalFull) h = grows_none a a old new (omega arith) h.0
+read_grows w by k a old new (Err errors.NoMemory) h = grows_none a a old new (omega arith) h
 
 stands_grows : (a : ℕ) (old new : List DemuxRecord) (e : Halt) → Stands old new e → Grows a a old new
 stands_grows a old new halts.JournalFull h = grows_none a a old new (omega arith) h.0
 stands_grows a old new halts.NoMemory h = grows_none a a old new (omega arith) h
 
-pub one_grows : (w w' : Ahead) (by k a : ℕ) (old new : List DemuxRecord) (r : Result Unit Halt) → ReadsOne w w' by k old new r → Grows a a old new
-one_grows w w' by k a old new (Ok u) h = read_grows w w' by k a old new (Ok h.0) h.1
-one_grows w w' by k a old new (Err e) h = stands_grows a old new e h
+pub one_grows : (w : Ahead) (by k a : ℕ) (old new : List DemuxRecord) (r : Result Unit Halt) → ReadsOne w by k old new r → Grows a a old new
+one_grows w by k a old new (Ok u) h = read_grows w by k a old new (Ok h.0) h.1
+one_grows w by k a old new (Err e) h = stands_grows a old new e h
 
 -- the tracks that are left first are the selected ones
 pub start_on : (rd : Readings) (w : Ahead) (old : List DemuxRecord) (left : Choice) → w ≡ at rd old → left ≡ w.set → Drained rd old old left

@@ -18,8 +18,5 @@ turns_on rd w before after old new r e h = subst (λ (x : Ahead). Turns x before
 pub next_on : (rd : Readings) (w : Ahead) (h : List DemuxRecord) (left : Choice) (n : Next) → w ≡ at rd h → IsNextBy w left n → IsNextBy (at rd h) left n
 next_on rd w h left n e is = subst (λ (x : Ahead). IsNextBy x left n) e is
 
-pub read_on : (rd : Readings) (w w' : Ahead) (by n k : ℕ) (old new : List DemuxRecord) (r : Result Reading DemuxError) → w ≡ at rd old → w' ≡ at rd new → by ≡ n → Reads w w' by k old new r
-    → Reads (at rd old) (at rd new) n k old new r
-read_on rd w w' by n k old new r e f b h =
-    subst (λ (m : ℕ). Reads (at rd old) (at rd new) m k old new r) b
-    (subst (λ (x : Ahead). Reads (at rd old) x by k old new r) f (subst (λ (x : Ahead). Reads x w' by k old new r) e h))
+pub read_on : (rd : Readings) (w : Ahead) (by n k : ℕ) (old new : List DemuxRecord) (r : Result Reading DemuxError) → w ≡ at rd old → by ≡ n → Reads w by k old new r → Reads (at rd old) n k old new r
+read_on rd w by n k old new r e b h = subst (λ (m : ℕ). Reads (at rd old) m k old new r) b (subst (λ (x : Ahead). Reads x by k old new r) e h)

@@ -135,26 +135,27 @@ Brings job before after old new j j' (Ok takens.Taken) = (number_of job ≡ Some
 Brings job before after old new j j' (Ok (takens.Stale asked now)) = (number_of job ≡ Some j.number → ⊥) × (new ≡ old) × (j' ≡ j)
 Brings job before after old new j j' (Err e) = Fails old new j j' e
 
--- no packet stands at the head, also when that was told
-pub record NoPacket (w w' : Ahead) (k : ℕ) : Type 0 where
-  pub before : w.front k ≡ None
-  pub after : w'.front k ≡ None
-
 -- a record was written and no job changed
 abbrev pub Tells : ℕ → DemuxRecord → List DemuxRecord → List DemuxRecord → Type 0
 Tells by own old new = HasRoom old × WroteAll by (own ∷ []) old new
 
-abbrev pub Reads : Ahead → Ahead → ℕ → ℕ → List DemuxRecord → List DemuxRecord → Result Reading DemuxError → Type 0
-Reads w w' by k old new (Ok (reads.Gave p)) = (p.track ≡ k) × (w.front k ≡ Some (rank p.pos)) × Tells by (gave_by by p) old new
-Reads w w' by k old new (Ok reads.NotYet) = NoPacket w w' k × (w.tells k ≡ false) × (new ≡ old)
-Reads w w' by k old new (Ok (reads.End ending)) = NoPacket w w' k × (w.tells k ≡ true) × Tells by (Ended by k ending) old new
-Reads w w' by k old new (Ok (reads.Overfull forward max)) = NoPacket w w' k × (w.tells k ≡ false) × Tells by (Overfull by k forward max) old new
-Reads w w' by k old new (Ok (reads.Fault before after)) = NoPacket w w' k × (w.tells k ≡ true) × Tells by (Faulted by k before after) old new
-Reads w w' by k old new (Ok reads.Wanting) = NoPacket w w' k × (w.tells k ≡ true) × Tells by (Wanting by k) old new
-Reads w w' by k old new (Ok reads.Unselected) = NoPacket w w' k × (w.tells k ≡ false) × (new ≡ old)
-Reads w w' by k old new (Err (errors.Refused why)) = ⊥
-Reads w w' by k old new (Err errors.JournalFull) = (new ≡ old) × (16000000 ≤ length old)
-Reads w w' by k old new (Err errors.NoMemory) = new ≡ old
+abbrev pub Reads : Ahead → ℕ → ℕ → List DemuxRecord → List DemuxRecord → Result Reading DemuxError → Type 0
+Reads w by k old new (Ok (reads.Gave p)) = (p.track ≡ k) × (w.front k ≡ Some (rank p.pos)) × Tells by (gave_by by p) old new
+Reads w by k old new (Ok reads.NotYet) = (w.front k ≡ None) × (w.tells k ≡ false) × (new ≡ old)
+Reads w by k old new (Ok (reads.End ending)) = (w.front k ≡ None) × (w.tells k ≡ true) × Tells by (Ended by k ending) old new
+Reads w by k old new (Ok (reads.Overfull forward max)) = (w.front k ≡ None) × (w.tells k ≡ false) × Tells by (Overfull by k forward max) old new
+Reads w by k old new (Ok (reads.Fault before after)) = (w.front k ≡ None) × (w.tells k ≡ true) × Tells by (Faulted by k before after) old new
+Reads w by k old new (Ok reads.Wanting) = (w.front k ≡ None) × (w.tells k ≡ true) × Tells by (Wanting by k) old new
+Reads w by k old new (Ok reads.Unselected) = (w.front k ≡ None) × (w.tells k ≡ false) × (new ≡ old)
+Reads w by k old new (Err (errors.Refused why)) = ⊥
+Reads w by k old new (Err errors.JournalFull) = (new ≡ old) × (16000000 ≤ length old)
+Reads w by k old new (Err errors.NoMemory) = new ≡ old
+
+-- a read that gives no packet, since none stands at the head, leaves it so
+abbrev pub LeavesNone : Readings → ℕ → List DemuxRecord → List DemuxRecord → Result Reading DemuxError → Type 0
+LeavesNone rd k old new (Ok (reads.Gave p)) = ⊤
+LeavesNone rd k old new (Ok _) = rd.front old k ≡ None → rd.front new k ≡ None
+LeavesNone rd k old new (Err e) = ⊤
 
 abbrev pub Peeks : Ahead → ℕ → Peek → Type 0
 Peeks w k (peeks.Packet pos) = w.front k ≡ Some (rank pos)

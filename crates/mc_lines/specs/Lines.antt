@@ -47,9 +47,9 @@ Stands old new halts.JournalFull = (new ≡ old) × (16000000 ≤ length old)
 Stands old new halts.NoMemory = new ≡ old
 
 -- one read was made, whatever it answered
-abbrev pub ReadsOne : Ahead → Ahead → ℕ → ℕ → List DemuxRecord → List DemuxRecord → Result Unit Halt → Type 0
-ReadsOne w w' by k old new (Ok u) = (r : Reading) × Reads w w' by k old new (Ok r)
-ReadsOne w w' by k old new (Err e) = Stands old new e
+abbrev pub ReadsOne : Ahead → ℕ → ℕ → List DemuxRecord → List DemuxRecord → Result Unit Halt → Type 0
+ReadsOne w by k old new (Ok u) = (r : Reading) × Reads w by k old new (Ok r)
+ReadsOne w by k old new (Err e) = Stands old new e
 
 -- one outcome was written, or there was nothing to do
 abbrev pub Turns : Ahead → ℕ → ℕ → List DemuxRecord → List DemuxRecord → Result Bool Halt → Type 0

@@ -37,7 +37,7 @@ fn is_packet(reading: &Reading) -> bool
 
 /// One read of a kind's track; what it answered stands in the journal.
 pub(crate) fn read_one<M: Machine>(machine: &mut M, kind: Kind, track: TrackNo) -> Result<(), Halt>
-    ensures reads { ReadsOne (M.ahead machine.old) (M.ahead machine.new) (reader_lem kind) track (M.journal machine.old) (M.journal machine.new) result }
+    ensures reads { ReadsOne (M.ahead machine.old) (reader_lem kind) track (M.journal machine.old) (M.journal machine.new) result }
     ensures stands { (octets : List ℕ) (rd : Readings) → M.stands machine.old octets rd → M.stands machine.new octets rd }
     ensures file { M.file machine.new ≡ M.file machine.old }
 {

@@ -12,7 +12,7 @@ use Rattle.mc_packet.specs.declared.cache.Limits.{Limits}
 use Rattle.mc_journal.specs.declared.record.Sought.TheVariants.{Sent}
 use Rattle.mc_journal.specs.declared.record.DemuxRecord.{DemuxRecord}
 use Rattle.mc_journal.specs.declared.record.DemuxRecord.TheVariants.{Opened, Sought, Switched, Found, Fed, Failed, Starved, Dropped, Joined, Gave, Ended, Overfull, Faulted, Wanting, Shown, Refused}
-use Rattle.mc_journal.specs.Choices.{is_empty, lead_of, nothing}
+use Rattle.mc_journal.specs.Choices.{has, is_empty, lead_of, nothing}
 use Rattle.mc_journal.specs.Films.{Film, at, rank}
 use Rattle.mc_journal.specs.Readings.{selected, follows, target, direction, failed}
 use Rattle.mc_journal.specs.Views.{is_idle, next, time_of}
@@ -38,9 +38,9 @@ pub record Readings : Type 0 where
   -- the choice that these numbers make over the film's tracks, or its refusal
   pub choice : List ℕ → Result Choice Why
 
--- no packet is at the head, and the end can be told, or a read failed
+-- a selected track has no packet at its head, and its end can be told, or a read failed
 abbrev pub can_tell : Film → List DemuxRecord → ℕ → Bool
-can_tell film h track = not (is_some (next film.packets h track)) && (can_end film.packets h track || failed h)
+can_tell film h track = has (selected h) track && (not (is_some (next film.packets h track)) && (can_end film.packets h track || failed h))
 
 -- of a film, under these limits
 abbrev pub readings : Film → Limits → (List ℕ → Result Choice Why) → Readings

@@ -28,11 +28,10 @@ loop-left-preserved-in_ok-read_one-in-Give g c =
           let now = inv.played octets rd told s in
           let stands = c.read_one.ensures.stands octets rd now.0 in
           let old_film = g.met.M.Machine.shows_film c.loop-left.machine octets rd now.0 in
-          let new_film = g.met.M.Machine.shows_film c.read_one.new.machine octets rd stands in
           let next = next_on rd (g.M.Machine.ahead c.loop-left.machine) _ c.loop-left.left (nexts.Give kind track) old_film c.in-Give.ensures in
-          let read = read_on rd (g.M.Machine.ahead c.loop-left.machine) (g.M.Machine.ahead c.read_one.new.machine) (reader kind) (reader kind) track _ _ (Ok one.0) old_film new_film refl one.1 in
+          let read = read_on rd (g.M.Machine.ahead c.loop-left.machine) (reader kind) (reader kind) track _ _ (Ok one.0) old_film refl one.1 in
           (stands, gave rd _ _ _ c.loop-left.left kind track one.0 now.1 next read);
-      grows = grows_on _ _ _ _ _ _ inv.grows (one_grows (g.M.Machine.ahead c.loop-left.machine) (g.M.Machine.ahead c.read_one.new.machine) (reader kind) track _ _ _ c.read_one.result c.read_one.ensures.reads);
+      grows = grows_on _ _ _ _ _ _ inv.grows (one_grows (g.M.Machine.ahead c.loop-left.machine) (reader kind) track _ _ _ c.read_one.result c.read_one.ensures.reads);
       file = c.read_one.ensures.file ∙ inv.file;
       files = inv.files;
       opened = inv.opened;
@@ -49,11 +48,10 @@ loop-left-preserved-in-Tell g c =
           let now = inv.played octets rd said s in
           let stands = c.read_one-in-Tell.ensures.stands octets rd now.0 in
           let old_film = g.met.M.Machine.shows_film c.loop-left.machine octets rd now.0 in
-          let new_film = g.met.M.Machine.shows_film c.read_one-in-Tell.new.machine octets rd stands in
           let next = next_on rd (g.M.Machine.ahead c.loop-left.machine) _ c.loop-left.left (nexts.Tell kind track) old_film c.in-Tell.ensures in
-          let read = read_on rd (g.M.Machine.ahead c.loop-left.machine) (g.M.Machine.ahead c.read_one-in-Tell.new.machine) (reader kind) (reader kind) track _ _ (Ok one.0) old_film new_film refl one.1 in
+          let read = read_on rd (g.M.Machine.ahead c.loop-left.machine) (reader kind) (reader kind) track _ _ (Ok one.0) old_film refl one.1 in
           (stands, rw c.without-left.ensures (told rd _ _ _ c.loop-left.left kind track one.0 now.1 next read));
-      grows = grows_on _ _ _ _ _ _ inv.grows (one_grows (g.M.Machine.ahead c.loop-left.machine) (g.M.Machine.ahead c.read_one-in-Tell.new.machine) (reader kind) track _ _ _ c.read_one-in-Tell.result c.read_one-in-Tell.ensures.reads);
+      grows = grows_on _ _ _ _ _ _ inv.grows (one_grows (g.M.Machine.ahead c.loop-left.machine) (reader kind) track _ _ _ c.read_one-in-Tell.result c.read_one-in-Tell.ensures.reads);
       file = c.read_one-in-Tell.ensures.file ∙ inv.file;
       files = inv.files;
       opened = inv.opened;

@@ -176,6 +176,7 @@ starts_is old starts heads b c j₁ j spare i k e ib begins s ic within =
       cache = ic;
       limits = subst (λ (x : Limits). AreLimits x) (sym lim) i.limits;
       distinct = i.distinct;
+      known = i.known;
       sets = d.sets (g.has.sets i.sets);
       placed = d.placed (subst (λ (h : Heads). IsPlaced old.set h nothing None b.current) (sym e) g.has.placed);
       waits = none_await old.set c.others;

@@ -1,5 +1,5 @@
 -- How much is left, and how much is told, when other tracks are selected.
-use Rattle.std.proofs.Common.{◌≡◌, ℕ, ◌+◌, ◌*◌, ◌≤◌, ◌<◌, Bool, true, false, Option, Some, None, List, [], ◌∷◌, ◌++◌, ℤ, refl, ap, sym, subst, ◌∙◌, inl, inr, arith, length, length-append}
+use Rattle.std.proofs.Common.{◌≡◌, ℕ, ◌+◌, ◌*◌, ◌≤◌, ◌<◌, Bool, true, false, ◌||◌, not, Option, Some, None, List, [], ◌∷◌, ◌++◌, ℤ, refl, ap, sym, subst, ◌∙◌, inl, inr, arith, length, length-append}
 use Rattle.std.specs.Prelude.{if◌then◌else◌, nat_le, map}
 use Rattle.std.specs.List.{AllByRecursion}
 use Rattle.std.specs.Option.{option_map}
@@ -14,7 +14,7 @@ use Rattle.mc_journal.specs.declared.record.Cause.TheVariants.{TrackChanged}
 use Rattle.mc_journal.specs.declared.record.DemuxRecord.{DemuxRecord}
 use Rattle.mc_journal.specs.declared.record.DemuxRecord.TheVariants.{Switched}
 use Rattle.mc_journal.specs.declared.record.Removal.{Removal}
-use Rattle.mc_journal.specs.Choices.{is_empty, is_known, is_track, lead_of}
+use Rattle.mc_journal.specs.Choices.{has, is_empty, is_known, is_track, lead_of}
 use Rattle.mc_queue.specs.Queue.{QueueState}
 use Rattle.mc_range.specs.declared.queues.Queues.{Queues}
 use Rattle.mc_range.specs.Range.{RangeState, IsRange, count}
@@ -25,10 +25,12 @@ use Rattle.mc_cache.specs.Changing.{IsRetracked}
 use Rattle.mc_cache.specs.Pruning.{back_of}
 use Rattle.mc_cache.specs.Removals.{lost_queue, lost_queues, put_all, put_in, removal_if, removal_in, removals_in, removals_lost, removals_of_all}
 use Rattle.mc_cache.proofs.Reselected.{retracked_weighs}
+use Rattle.mc_demux.specs.declared.waiting.Target.{Target}
 use Rattle.mc_demux.specs.State.{DemuxState}
-use Rattle.mc_demux.specs.Demuxers.{AreLimits, IsDemux, IsPlaced, heaviest}
+use Rattle.mc_demux.specs.Demuxers.{AreAwaited, AreLimits, IsDemux, IsPlaced, heaviest}
 use Rattle.mc_demux.specs.Selecting.{added_to, knows, own_records, sought_again, told_drops, waiting_after}
 use Rattle.mc_demux.specs.Trimming.{Trims}
+use Rattle.mc_demux.proofs.Awaited.{kept_await, none_await}
 use Rattle.mc_demux.proofs.Kept.{still_placed}
 use Rattle.mc_demux.proofs.Known.{known_distinct, known_same}
 use Rattle.mc_demux.proofs.Resting.{own_set}
@@ -164,6 +166,10 @@ left_placed old set drops left i kinds r =
     subst (λ (o : Option RangeState). IsPlaced set old.heads (waiting_after old.seeking (added_to set old)) old.seeking o) (sym r.current_is)
     (still_placed old set old.seeking old.cache.current i.cache.current (own_set old i) kinds i.placed)
 
+left_await : (old : DemuxState) (set : Choice) (o : Option Target) → AreAwaited set (waiting_after o (added_to set old)) []
+left_await old set None = kept_await set (λ k. not (has old.set k) || has old.waiting k)
+left_await old set (Some s) = none_await set []
+
 pub switched_is : (old : DemuxState) (by : ℕ) (set : Choice) (at : ℤ) (drops : List Removal) (left c : CacheState) (j : List DemuxRecord) (ended : Choice) (spare : ℕ)
     → IsDemux old → is_known (knows old.list) set ≡ true → IsRetracked set drops old.cache left
     → Trims by old.heads left (old.journal ++ (own_records by set at old ++ told_drops by drops)) c j → IsCache c → back_of old.heads c ≤ c.limits.back
@@ -195,6 +201,7 @@ switched_is old by set at drops left c j ended spare i k r t ic w =
       known = k;
       sets = d.sets (left_sets set drops old.cache left r);
       placed = d.placed placed;
+      waits = subst (λ (rs : List RangeState). AreAwaited set waits rs) (sym (d.alone r.no_others)) (left_await old set old.seeking);
       numbered = omega arith;
       kept = tt;
       within = w;

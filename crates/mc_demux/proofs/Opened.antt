@@ -31,11 +31,12 @@ use Rattle.mc_cache.specs.Changing.{IsNew, IsStarted}
 use Rattle.mc_cache.proofs.Started.{begun_light}
 use Rattle.mc_demux.specs.declared.waiting.Switch.{Switch}
 use Rattle.mc_demux.specs.State.{DemuxState, head_of}
-use Rattle.mc_demux.specs.Demuxers.{AreLimits, IsDemux, IsPlaced}
+use Rattle.mc_demux.specs.Demuxers.{AreAwaited, AreLimits, IsDemux, IsPlaced}
 use Rattle.mc_demux.specs.Film.{Fits, StandsFor}
 use Rattle.mc_demux.specs.Opening.{HasTracks, MayOpen, first_starts, no_heads}
 use Rattle.mc_demux.specs.Outcomes.{head_at, heads_at}
 use Rattle.mc_demux.specs.Selecting.{knows}
+use Rattle.mc_demux.proofs.Awaited.{none_await}
 use Rattle.mc_demux.proofs.Places.{if_queue, queue_selected}
 use Rattle.mc_demux.proofs.Seeking.{none_of, not_nothing}
 
@@ -196,6 +197,7 @@ made_is list set limits c heads none ended journal spare m =
           subst (λ (o : Option RangeState). IsPlaced set heads none None o) (sym b.current_is)
           (subst (λ (h : Heads). IsPlaced set h none None (Some r)) (sym m.heads_are)
           (subst (λ (w : Choice). IsPlaced set (heads_at (first_starts set) no_heads) w None (Some r)) (sym m.none_wait) (placed_first set r dist b.range b.begun)));
+      waits = subst (λ (w : Choice). AreAwaited set w c.others) (sym m.none_wait) (none_await set c.others);
       numbered = omega arith;
       kept = tt;
       within = omega arith;

@@ -23,10 +23,11 @@ use Rattle.mc_cache.specs.Pruning.{back_of}
 use Rattle.mc_demux.specs.declared.job.Job.{Job}
 use Rattle.mc_demux.specs.declared.waiting.Target.{Target}
 use Rattle.mc_demux.specs.State.{DemuxState}
-use Rattle.mc_demux.specs.Demuxers.{AreLimits, IsDemux, IsPlaced, KeepsJob, heaviest}
+use Rattle.mc_demux.specs.Demuxers.{AreAwaited, AreLimits, IsDemux, IsPlaced, KeepsJob, heaviest}
 use Rattle.mc_demux.specs.Selecting.{knows}
 use Rattle.mc_demux.specs.Seeking.{Goes, Turns, heads_or, target_after}
 use Rattle.mc_demux.specs.Trimming.{Trims}
+use Rattle.mc_demux.proofs.Awaited.{less_await, none_await}
 use Rattle.mc_demux.proofs.Places.{serving_places}
 use Rattle.mc_demux.proofs.Trimmed.{trimmed}
 
@@ -156,10 +157,10 @@ turned_placed set heads t dir Sent old new l h i e = (l.no_current, refl)
 
 -- drops leave a demuxer of what was one but for the octets behind the readers
 pub trims_is : (d : DemuxState) (by : ℕ) (c₀ : CacheState) (j₀ : List DemuxRecord) (c : CacheState) (j : List DemuxRecord) → AreLimits c₀.limits → is_distinct d.set ≡ true → is_known (knows d.list) d.set ≡ true
-    → AllByRecursion (λ r. r.set ≡ d.set) (ranges_of c₀) → IsPlaced d.set d.heads d.waiting d.seeking c₀.current → d.number ≤ length j₀
+    → AllByRecursion (λ r. r.set ≡ d.set) (ranges_of c₀) → IsPlaced d.set d.heads d.waiting d.seeking c₀.current → AreAwaited d.set d.waiting c₀.others → d.number ≤ length j₀
     → weight_of (ranges_of c₀) ≤ c₀.limits.forward + c₀.limits.back + heaviest → d.kept ≡ None
     → Trims by d.heads c₀ j₀ c j → IsCache c → back_of d.heads c ≤ c.limits.back → IsDemux (record d { cache = c; journal = j })
-trims_is d by c₀ j₀ c j l dist known sets placed n w k t ic b =
+trims_is d by c₀ j₀ c j l dist known sets placed waits n w k t ic b =
     let m = trimmed by d.set d.heads d.waiting d.seeking c₀ j₀ c j t in
     let lim : c₀.limits ≡ c.limits = sym m.limits_are in
     let light = m.lighter in
@@ -172,6 +173,7 @@ trims_is d by c₀ j₀ c j l dist known sets placed n w k t ic b =
       known = known;
       sets = m.sets sets;
       placed = m.placed placed;
+      waits = less_await d.set d.waiting c₀.others c.others waits m.alone;
       numbered = omega arith;
       kept = subst (λ (o : Option Job). IfSome o (KeepsJob (record d { cache = c; journal = j }))) (sym k) tt;
       within = b;
@@ -197,7 +199,7 @@ goes_is old by t dir how turned c heads j j' own seeking none ended spare i it t
     let long : length j ≡ length old.journal + 1 = ap (λ (l : List DemuxRecord). length l) pushed ∙ length-append old.journal (own ∷ []) in
     let n = i.numbered in
     trims_is (record old { heads = heads; seeking = seeking; waiting = none; failure = None; ended = ended; number = old.number + 1; kept = None; fed = false; spare = spare }) by turned j c j'
-    (subst (λ (l : Limits). AreLimits l) (sym lim) i.limits) i.distinct i.known sets here (omega arith)
+    (subst (λ (l : Limits). AreLimits l) (sym lim) i.limits) i.distinct i.known sets here (subst (λ (w : Choice). AreAwaited old.set w turned.others) (sym none_is) (none_await old.set turned.others)) (omega arith)
     (subst (λ (l : Limits). weight_of (ranges_of turned) ≤ l.forward + l.back + heaviest) (sym lim) all) refl trims ic b
 
 -- what was done by steps is the seek

@@ -156,7 +156,7 @@ pub record CurrentAdded (added : Choice) (starts : Starts) (r : RangeState) (old
   pub others_is : new.others ≡ old.others
   pub limits_are : new.limits ≡ old.limits
 
-there : (P : RangeState → Type 0) (o : Option RangeState) → IsSomeAnd o P → (r : RangeState) × (o ≡ Some r) × P r
+pub there : (P : RangeState → Type 0) (o : Option RangeState) → IsSomeAnd o P → (r : RangeState) × (o ≡ Some r) × P r
 there P None h = absurd h
 there P (Some r) h = (r, refl, h)
 
@@ -222,7 +222,7 @@ add_there t None (Some s) o n hd a e f = absurd (cc)
 add_there t (Some x) None o n hd a e f = absurd (cc)
 add_there t (Some x) (Some s) o n hd a e f = λ k g. (some_is (λ q. IsNew x (place_at s) q) n a, refl)
 
-wait_off : (a b w : Option ℕ) (k : ℕ) → is_other a b ≡ true → a ≡ Some k → IsSelected b w → is_track w k ≡ false
+pub wait_off : (a b w : Option ℕ) (k : ℕ) → is_other a b ≡ true → a ≡ Some k → IsSelected b w → is_track w k ≡ false
 wait_off a b None k o e s = refl
 wait_off a b (Some m) k o e s = elim (cases_Bool (m == k)) [
   | inl y ↦

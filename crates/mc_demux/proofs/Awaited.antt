@@ -11,7 +11,7 @@ use Rattle.mc_demux.specs.Demuxers.{AreAwaited, IsSelected}
 pub none_await : (set : Choice) (others : List RangeState) → AreAwaited set nothing others
 none_await set others = record { video = tt; audio = tt; sub = tt; alone = λ e. absurd (cc) }
 
-same_selected : (o : Option ℕ) → IsSelected o o
+pub same_selected : (o : Option ℕ) → IsSelected o o
 same_selected None = tt
 same_selected (Some k) = refl
 

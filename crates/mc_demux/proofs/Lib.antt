@@ -46,3 +46,6 @@ pub mod Adding
 pub mod Placing
 pub mod Starting
 pub mod Beginning
+pub mod FilmStarts
+pub mod FilmAdding
+pub mod FilmMarks

@@ -18,7 +18,7 @@ use Rattle.mc_demux.proofs.Seeking.{not_nothing}
 
 -- ---- a queue is of a selected track
 
-own_off : (t : Option ℕ) (m : Mark) (o : Option QueueState) (k : ℕ) → QueueIn t m o → is_track t k ≡ false → own k o ≡ None
+pub own_off : (t : Option ℕ) (m : Mark) (o : Option QueueState) (k : ℕ) → QueueIn t m o → is_track t k ≡ false → own k o ≡ None
 own_off t m None k i e = refl
 own_off t m (Some q) k i e = let f : (q.track == k) ≡ false = subst (λ (x : Option ℕ). is_track x k ≡ false) i.0 e in rw f refl
 

@@ -102,7 +102,7 @@ all_wait set heads waiting (Some s) c p e n = absurd (let f : is_empty waiting �
 all_wait set heads waiting None None p e n = p
 all_wait set heads waiting None (Some r) p e n = absurd (cc)
 
-no_seek : (set : Choice) (heads : Heads) (waiting : Choice) (o : Option Target) (c : Option RangeState) → IsPlaced set heads waiting o c → is_empty waiting ≡ false → o ≡ None
+pub no_seek : (set : Choice) (heads : Heads) (waiting : Choice) (o : Option Target) (c : Option RangeState) → IsPlaced set heads waiting o c → is_empty waiting ≡ false → o ≡ None
 no_seek set heads waiting (Some s) c p n = absurd (let f : is_empty waiting ≡ true = ap (λ (w : Choice). is_empty w) p.1 in cc)
 no_seek set heads waiting None c p n = refl
 

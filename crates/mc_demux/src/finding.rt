@@ -103,7 +103,7 @@ fn begin_range(
 
 /// Gives the current range the added tracks, or begins a new range where none is current, and tells
 /// of the starts.
-#[tactic(auto, using(crate::proofs::Beginning::begins_some))]
+#[tactic(auto, using(crate::proofs::Beginning::begins_some, crate::proofs::FilmStarts::may_tell, crate::proofs::FilmMarks::added_range))]
 fn begin(
     cache: &mut Cache,
     set: Choice,

@@ -8,7 +8,7 @@ ghost use Rattle.mc_cache.specs.Changing.{heads_in, server};
 ghost use Rattle.mc_demux.specs.Demuxers.{IsDemux};
 ghost use Rattle.mc_demux.specs.Film.{StandsFor};
 ghost use Rattle.mc_demux.specs.Keeping.{IsRoomy};
-ghost use Rattle.mc_demux.specs.Seeking.{Goes, IsNear, IsRefused, Seeks, Turns, heads_or, target_after};
+ghost use Rattle.mc_demux.specs.Seeking.{Goes, IsRefused, Seeks, Turns, heads_or, target_after};
 
 use crate::answer::DemuxError;
 use crate::asking::is_empty;
@@ -110,7 +110,6 @@ impl Demux {
     /// which is recorded; with `JournalFull` exactly where the journal has 16,000,000 records; and
     /// with `NoMemory`. The last two change nothing but room.
     pub fn seek(&mut self, by: u32, t: i64, dir: Dir) -> Result<Sought, DemuxError>
-        requires near { IsNear t }
         ensures value { Seeks by t dir self.old result self.new }
         ensures film { (film : Film) → StandsFor film self.old → StandsFor film self.new }
         ensures demux { IsDemux self.new }

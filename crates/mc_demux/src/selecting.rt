@@ -5,7 +5,6 @@ ghost use Rattle.mc_journal.specs.Films.{Film};
 ghost use Rattle.mc_cache.specs.Cache.{count_of, ranges_of};
 ghost use Rattle.mc_demux.specs.Demuxers.{IsDemux};
 ghost use Rattle.mc_demux.specs.Film.{StandsFor};
-ghost use Rattle.mc_demux.specs.Seeking.{IsNear};
 ghost use Rattle.mc_demux.specs.Selecting.{Selects, Switches, added_to, knows, sought_again, told_drops, waiting_after};
 
 use crate::answer::{DemuxError, Selected};
@@ -153,7 +152,6 @@ impl Demux {
     /// exactly where the journal has 16,000,000 records, and with `NoMemory`; these change nothing
     /// but room.
     pub fn select(&mut self, by: u32, set: &[TrackNo], at: i64) -> Result<Selected, DemuxError>
-        requires near { IsNear at }
         ensures value { Selects by set.now at self.old result self.new }
         ensures film { (film : Film) → StandsFor film self.old → StandsFor film self.new }
         ensures demux { IsDemux self.new }

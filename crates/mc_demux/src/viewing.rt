@@ -112,6 +112,14 @@ impl Demux {
             && was_ended(self.set.sub, self.ended)
     }
 
+    /// The reader's time in nanoseconds: that of the last packet that the lead was given since the last
+    /// seek or opening, else the seek's target. It takes no memory.
+    pub fn time(&self) -> Option<i64>
+        ensures value { result ≡ time_of (lead_of self.now.set) (reverse self.now.journal) }
+    {
+        time_of(lead_of(self.set), &self.journal)
+    }
+
     /// What the cache tells of itself as it is seen by the readers: its ranges, the current one
     /// first and the others in order of last use, the octets ahead of the readers and behind them,
     /// the time of the lead's reader, whether it was given something since the last seek, and

@@ -46,3 +46,4 @@ pub mod Adding
 pub mod Placing
 pub mod Starting
 pub mod Beginning
+pub mod Showing

@@ -1,6 +1,6 @@
 -- What a demuxer shows of itself is what its journal says.
-use Rattle.std.proofs.Common.{◌≡◌, ℕ, ◌+◌, Bool, true, false, Option, Some, None, List, [], ◌∷◌, refl, ap, sym, subst, ◌∙◌, inl, inr, ◌==◌}
-use Rattle.std.specs.Prelude.{ℤ, if◌then◌else◌, reverse, is_some, IfSome, ⊤}
+use Rattle.std.proofs.Common.{◌≡◌, ℕ, ◌+◌, Bool, true, false, ◌&&◌, ◌||◌, not, Option, Some, None, List, [], ◌∷◌, refl, ap, sym, subst, ◌∙◌, inl, inr, ◌==◌}
+use Rattle.std.specs.Prelude.{ℤ, nat_le, if◌then◌else◌, reverse, is_some, IfSome, ⊤}
 use Rattle.std.specs.List.{find}
 use Rattle.std.specs.Option.{option_map}
 use Rattle.std.proofs.lemmas.Bool.{cases_Bool, eqb-true}
@@ -12,20 +12,26 @@ use Rattle.mc_packet.specs.declared.cache.Heads.{Heads}
 use Rattle.mc_packet.specs.declared.walk.Mark.{Mark}
 use Rattle.mc_journal.specs.declared.record.DemuxRecord.{DemuxRecord}
 use Rattle.mc_journal.specs.Told.{Told, told}
-use Rattle.mc_journal.specs.Choices.{or_else}
+use Rattle.mc_journal.specs.Choices.{or_else, has}
 use Rattle.mc_journal.specs.Films.{Film, at, rank}
-use Rattle.mc_journal.specs.Readings.{selected, pending, target, direction}
+use Rattle.mc_journal.specs.Readings.{selected, pending, target, direction, failed}
 use Rattle.mc_journal.specs.Views.{next}
+use Rattle.mc_journal.specs.Used.{can_end}
+use Rattle.mc_packet.specs.declared.walk.Ending.{Ending}
 use Rattle.mc_queue.specs.Places.{Rise, is_from, place}
 use Rattle.mc_queue.specs.Queue.{QueueState, IsQueue}
 use Rattle.mc_range.specs.Range.{RangeState, QueueIn, QueuesIn, IsRange, is_of, own, queue_of}
 use Rattle.mc_range.specs.declared.queues.Queues.{Queues}
 use Rattle.mc_demux.specs.declared.waiting.Target.{Target}
-use Rattle.mc_demux.specs.State.{DemuxState, first_at, head_of, next_in}
+use Rattle.mc_demux.specs.declared.waiting.Failure.{Failure}
+use Rattle.mc_demux.specs.declared.waiting.Failure.TheVariants.{Failed, Starved}
+use Rattle.mc_demux.specs.declared.answer.Reading.TheVariants.{NotYet, Overfull, Unselected}
+use Rattle.mc_demux.specs.State.{DemuxState, first_at, head_of, next_in, end_in, forward_of}
 use Rattle.mc_demux.specs.Demuxers.{IsDemux}
-use Rattle.mc_demux.specs.Film.{StandsFor}
-use Rattle.mc_demux.specs.Shows.{goal_of, pending_goal}
-use Rattle.mc_demux.proofs.Nexts.{next-is}
+use Rattle.mc_demux.specs.Readings.{peek_at, reading_by, reading_of}
+use Rattle.mc_demux.specs.Film.{StandsFor, failure_record}
+use Rattle.mc_demux.specs.Shows.{goal_of, is_finish, pending_goal}
+use Rattle.mc_demux.proofs.Nexts.{end-is, next-is}
 
 -- ---- the packet at a head
 
@@ -93,3 +99,43 @@ target_told (Some s) b t dir e h = let u = h.0 in let v = h.1 in rw (e, u, v) re
 
 pub pending_is : (film : Film) (d : DemuxState) → StandsFor film d → option_map goal_of d.seeking ≡ pending_goal (reverse d.journal)
 pending_is film d s = target_told d.seeking (pending (reverse d.journal)) (target (reverse d.journal)) (direction (reverse d.journal)) s.fits.seeks s.fits.target_is
+
+-- ---- where a read tells an end, a failure or want of memory
+
+failed_told : (o : Option Failure) → is_some (option_map failure_record o) ≡ is_some o
+failed_told None = refl
+failed_told (Some f) = refl
+
+full_waits : (b : Bool) (forward max : ℕ) → is_finish (peek_at (if b then Overfull forward max else NotYet)) ≡ false
+full_waits true forward max = refl
+full_waits false forward max = refl
+
+finish_by : (o : Option Packet) (e : Option Ending) (f : Option Failure) (forward max : ℕ)
+    → is_finish (peek_at (reading_by o e f forward max)) ≡ (not (is_some (option_map told o)) && (is_some e || is_some f))
+finish_by (Some p) e f forward max = refl
+finish_by None (Some e) f forward max = refl
+finish_by None None (Some (Failed before after)) forward max = refl
+finish_by None None (Some Starved) forward max = refl
+finish_by None None None forward max = full_waits (nat_le max forward) forward max
+
+finish_in : (b : Bool) (o : Option Packet) (e : Option Ending) (f : Option Failure) (forward max : ℕ)
+    → (b && is_finish (peek_at (if b then reading_by o e f forward max else Unselected))) ≡ (b && (not (is_some (option_map told o)) && (is_some e || is_some f)))
+finish_in true o e f forward max = finish_by o e f forward max
+finish_in false o e f forward max = refl
+
+pub tells_is : (film : Film) (d : DemuxState) (track : ℕ) → StandsFor film d
+    → (has d.set track && is_finish (peek_at (reading_of track d)))
+    ≡ (has (selected (reverse d.journal)) track
+    && (not (is_some (next film.packets (reverse d.journal) track)) && (can_end film.packets (reverse d.journal) track || failed (reverse d.journal))))
+tells_is film d track s =
+    let h = reverse d.journal in
+    let set : has d.set track ≡ has (selected h) track = ap (λ (c : Choice). has c track) (set_is film d s) in
+    let none : option_map told (next_in d.set d.heads track d.cache.current) ≡ next film.packets h track = sym (next_of film d track s) in
+    let end : is_some (end_in track d.cache.current) ≡ can_end film.packets h track =
+    sym (end-is film d.cache.limits d.set d.cache.current d.cache.others d.heads d.seeking d.waiting d.switch d.failure d.ended h track s.fits) in
+    let bad : is_some d.failure ≡ failed h = sym (failed_told d.failure) ∙ sym (ap (λ (o : Option DemuxRecord). is_some o) s.fits.failure_is) in
+    finish_in (has d.set track) (next_in d.set d.heads track d.cache.current) (end_in track d.cache.current) d.failure (forward_of d) d.cache.limits.forward
+    ∙ ap (λ b. b && (not (is_some (option_map told (next_in d.set d.heads track d.cache.current))) && (is_some (end_in track d.cache.current) || is_some d.failure))) set
+    ∙ ap (λ (o : Option Told). has (selected h) track && (not (is_some o) && (is_some (end_in track d.cache.current) || is_some d.failure))) none
+    ∙ ap (λ b. has (selected h) track && (not (is_some (next film.packets h track)) && (b || is_some d.failure))) end
+    ∙ ap (λ b. has (selected h) track && (not (is_some (next film.packets h track)) && (can_end film.packets h track || b))) bad

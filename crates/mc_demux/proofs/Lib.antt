@@ -47,3 +47,4 @@ pub mod Placing
 pub mod Starting
 pub mod Beginning
 pub mod Showing
+pub mod Emptied

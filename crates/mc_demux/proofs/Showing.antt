@@ -39,7 +39,7 @@ place_told : (o : Option Packet) → option_map (λ (p : Packet). rank p.pos) o 
 place_told None = refl
 place_told (Some p) = refl
 
-next_of : (film : Film) (d : DemuxState) (track : ℕ) → StandsFor film d → next film.packets (reverse d.journal) track ≡ option_map told (next_in d.set d.heads track d.cache.current)
+pub next_of : (film : Film) (d : DemuxState) (track : ℕ) → StandsFor film d → next film.packets (reverse d.journal) track ≡ option_map told (next_in d.set d.heads track d.cache.current)
 next_of film d track s =
     next-is film d.cache.limits d.set d.cache.current d.cache.others d.heads d.seeking d.waiting d.switch d.failure d.ended (reverse d.journal) track s.fits
 

@@ -48,3 +48,4 @@ pub mod Starting
 pub mod Beginning
 pub mod Showing
 pub mod Emptied
+pub mod Idling

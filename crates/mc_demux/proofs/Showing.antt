@@ -106,6 +106,9 @@ failed_told : (o : Option Failure) → is_some (option_map failure_record o) ≡
 failed_told None = refl
 failed_told (Some f) = refl
 
+pub failed_is : (film : Film) (d : DemuxState) → StandsFor film d → is_some d.failure ≡ failed (reverse d.journal)
+failed_is film d s = sym (failed_told d.failure) ∙ sym (ap (λ (o : Option DemuxRecord). is_some o) s.fits.failure_is)
+
 full_waits : (b : Bool) (forward max : ℕ) → is_finish (peek_at (if b then Overfull forward max else NotYet)) ≡ false
 full_waits true forward max = refl
 full_waits false forward max = refl
@@ -133,9 +136,8 @@ tells_is film d track s =
     let none : option_map told (next_in d.set d.heads track d.cache.current) ≡ next film.packets h track = sym (next_of film d track s) in
     let end : is_some (end_in track d.cache.current) ≡ can_end film.packets h track =
     sym (end-is film d.cache.limits d.set d.cache.current d.cache.others d.heads d.seeking d.waiting d.switch d.failure d.ended h track s.fits) in
-    let bad : is_some d.failure ≡ failed h = sym (failed_told d.failure) ∙ sym (ap (λ (o : Option DemuxRecord). is_some o) s.fits.failure_is) in
     finish_in (has d.set track) (next_in d.set d.heads track d.cache.current) (end_in track d.cache.current) d.failure (forward_of d) d.cache.limits.forward
     ∙ ap (λ b. b && (not (is_some (option_map told (next_in d.set d.heads track d.cache.current))) && (is_some (end_in track d.cache.current) || is_some d.failure))) set
     ∙ ap (λ (o : Option Told). has (selected h) track && (not (is_some o) && (is_some (end_in track d.cache.current) || is_some d.failure))) none
     ∙ ap (λ b. has (selected h) track && (not (is_some (next film.packets h track)) && (b || is_some d.failure))) end
-    ∙ ap (λ b. has (selected h) track && (not (is_some (next film.packets h track)) && (can_end film.packets h track || b))) bad
+    ∙ ap (λ b. has (selected h) track && (not (is_some (next film.packets h track)) && (can_end film.packets h track || b))) (failed_is film d s)

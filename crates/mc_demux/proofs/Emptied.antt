@@ -1,7 +1,7 @@
 -- Where nothing stands at a head, an answer that gives no packet and drops that the limit asks for bring nothing there.
-use Rattle.std.proofs.Common.{◌≡◌, ℕ, ◌≤◌, Bool, true, false, ◌&&◌, Option, Some, None, List, [], ◌∷◌, ◌++◌, refl, ap, sym, subst, ◌∙◌, inl, inr, ◌==◌, arith, append_assoc}
-use Rattle.std.specs.Prelude.{if◌then◌else◌, nat_le, nat_lt, reverse, IsSomeAnd, ⊤}
-use Rattle.std.specs.List.{filter, AllByRecursion}
+use Rattle.std.proofs.Common.{◌≡◌, ℕ, ◌≤◌, true, false, ◌&&◌, Option, Some, None, List, [], ◌∷◌, ◌++◌, refl, ap, sym, subst, ◌∙◌, inl, inr, ◌==◌, arith, append_assoc}
+use Rattle.std.specs.Prelude.{nat_le, nat_lt, reverse, IsSomeAnd}
+use Rattle.std.specs.List.{AllByRecursion}
 use Rattle.std.specs.Option.{option_map}
 use Rattle.std.proofs.lemmas.Bool.{cases_Bool, eqb-true}
 use Rattle.std.proofs.lemmas.Bool.Decides.{nat_tests}
@@ -14,7 +14,7 @@ use Rattle.mc_journal.specs.declared.record.DemuxRecord.TheVariants.{Dropped, En
 use Rattle.mc_journal.specs.Told.{Told, told}
 use Rattle.mc_journal.specs.Films.{Film, at, first, rank, track_of}
 use Rattle.mc_journal.specs.Ranges.{Range, Span, in_span, within}
-use Rattle.mc_journal.specs.Stands.{Stand, stand, cut_in, cut_range, cut_span, dropped}
+use Rattle.mc_journal.specs.Stands.{stand, cut_in, cut_range, cut_span, dropped}
 use Rattle.mc_journal.specs.Views.{from_place, head, next, next_in as next_held}
 use Rattle.mc_journal.specs.Allowed.{Cuts, IsAllowed, MayCut, MayDrop}
 use Rattle.mc_journal.proofs.Laws.{used-allowed}

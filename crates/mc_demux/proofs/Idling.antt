@@ -1,18 +1,16 @@
 -- A demuxer has nothing to do exactly where its journal says so.
-use Rattle.std.proofs.Common.{◌≡◌, ℕ, Bool, true, false, ◌&&◌, ◌||◌, not, Option, Some, None, List, [], ◌∷◌, refl, ap, sym, subst, ◌∙◌, inl, inr}
+use Rattle.std.proofs.Common.{◌≡◌, ℕ, Bool, true, false, ◌&&◌, ◌||◌, not, Option, Some, None, List, refl, ap, sym, subst, ◌∙◌, inl, inr}
 use Rattle.std.specs.Prelude.{ℤ, if◌then◌else◌, map, nat_le, reverse, is_some, IfSome}
 use Rattle.std.specs.Option.{option_map}
 use Rattle.std.proofs.lemmas.Bool.{cases_Bool}
-use Rattle.mc_packet.specs.declared.packet.Packet.{Packet}
 use Rattle.mc_packet.specs.declared.choice.Choice.{Choice}
 use Rattle.mc_packet.specs.declared.cache.Heads.{Heads}
 use Rattle.mc_packet.specs.declared.walk.Ending.{Ending}
 use Rattle.mc_packet.specs.declared.walk.Mark.{Mark}
-use Rattle.mc_journal.specs.declared.record.DemuxRecord.{DemuxRecord}
 use Rattle.mc_journal.specs.Told.{Told, told}
 use Rattle.mc_journal.specs.Choices.{or_else, is_empty, kept_of, kept_track, lead_of, meets, some_of}
 use Rattle.mc_journal.specs.Films.{Film}
-use Rattle.mc_journal.specs.Ranges.{Range, held}
+use Rattle.mc_journal.specs.Ranges.{Range}
 use Rattle.mc_journal.specs.Readings.{failed, pending, selected, waits}
 use Rattle.mc_journal.specs.Stands.{stand}
 use Rattle.mc_journal.specs.Views.{ending_in as ending_told, forward, from_place, head, is_full as full_told, is_idle, is_placed, some_wants as some_want_told, wants as want_told, wants_in, wants_more}

@@ -1,6 +1,6 @@
 -- What a demuxer shows of itself is what its journal says.
 use Rattle.std.proofs.Common.{◌≡◌, ℕ, ◌+◌, Bool, true, false, ◌&&◌, ◌||◌, not, Option, Some, None, List, [], ◌∷◌, refl, ap, sym, subst, ◌∙◌, inl, inr, ◌==◌}
-use Rattle.std.specs.Prelude.{ℤ, nat_le, if◌then◌else◌, reverse, is_some, IfSome, ⊤}
+use Rattle.std.specs.Prelude.{ℤ, nat_le, if◌then◌else◌, reverse, is_some, IfSome}
 use Rattle.std.specs.List.{find}
 use Rattle.std.specs.Option.{option_map}
 use Rattle.std.proofs.lemmas.Bool.{cases_Bool, eqb-true}
@@ -20,8 +20,7 @@ use Rattle.mc_journal.specs.Used.{can_end}
 use Rattle.mc_packet.specs.declared.walk.Ending.{Ending}
 use Rattle.mc_queue.specs.Places.{Rise, is_from, place}
 use Rattle.mc_queue.specs.Queue.{QueueState, IsQueue}
-use Rattle.mc_range.specs.Range.{RangeState, QueueIn, QueuesIn, IsRange, is_of, own, queue_of}
-use Rattle.mc_range.specs.declared.queues.Queues.{Queues}
+use Rattle.mc_range.specs.Range.{RangeState, QueueIn, IsRange, own, queue_of}
 use Rattle.mc_demux.specs.declared.waiting.Target.{Target}
 use Rattle.mc_demux.specs.declared.waiting.Failure.{Failure}
 use Rattle.mc_demux.specs.declared.waiting.Failure.TheVariants.{Failed, Starved}

@@ -17,13 +17,14 @@ ghost use Rattle.mc_demux.specs.Records.{Wrote};
 ghost use Rattle.mc_demux.specs.Film.{StandsFor};
 ghost use Rattle.mc_demux.specs.Shows.{GivesNone, goal_of, is_finish, is_idle_job, pending_goal};
 
-/// A reader's next packet stands at the place of the next one that the journal leaves there, and is
-/// of the reader's track. The selected tracks are those that the journal selects, and the target of
-/// a seek that was sent is the one that is pending there. A read of a
-/// selected track would tell an end, a failure or want of memory exactly where by the journal no
-/// packet of it is next, and its end can be told or a read failed. Where a reader
-/// has no packet next, the record of an answer that gives none, and the drops behind it, bring none.
-/// And nothing is to be done exactly where the demuxer is idle by its journal.
+/// A reader's next packet stands at the place of the next one that the journal leaves there
+/// (`front`), and is of the reader's track (`own`). The selected tracks are those that the journal
+/// selects (`set`), and the target of a seek that was sent is the one that is pending there
+/// (`pending`). A read of a selected track would tell an end, a failure or want of memory exactly
+/// where by the journal no packet of it is next, and its end can be told or a read failed (`tells`).
+/// Where no packet of a track is next, neither the record of an answer that gives none nor the drops
+/// behind it bring one (`quiet`). Nothing is to be done exactly where by the journal the demuxer is
+/// idle (`idle`).
 pub fn shown_readers()
     ensures front { (film : Film) (d : DemuxState) (track : ℕ) → StandsFor film d → option_map (λ (p : Packet). rank p.pos) (next_in d.set d.heads track d.cache.current) ≡ option_map at (next film.packets (reverse d.journal) track) }
     ensures own { (d : DemuxState) (track : ℕ) → IsDemux d → IfSome (next_in d.set d.heads track d.cache.current) (λ p. p.track ≡ track) }

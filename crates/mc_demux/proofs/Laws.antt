@@ -61,7 +61,7 @@ kept-has set test k e = elim (cases_Bool (is_track (kept_track test set.video) k
   ]
 ]
 
-none_told : (o : Option Packet) → option_map told o ≡ None → o ≡ None
+pub none_told : (o : Option Packet) → option_map told o ≡ None → o ≡ None
 none_told None e = refl
 none_told (Some p) e = absurd (cc)
 

@@ -49,3 +49,6 @@ pub mod Beginning
 pub mod FilmStarts
 pub mod FilmAdding
 pub mod FilmMarks
+pub mod Showing
+pub mod Emptied
+pub mod Idling

@@ -16,6 +16,7 @@ mod reading;
 mod rooms;
 mod seek;
 mod selecting;
+mod shows;
 mod trim;
 mod viewing;
 mod waiting;
@@ -25,6 +26,7 @@ pub use answer::{DemuxError, Peek, Reading, Selected, Taken};
 pub use demux::{Demux, DemuxJournal};
 pub use job::Job;
 pub use law::{resting_readers, standing_journals};
+pub use shows::shown_readers;
 pub use waiting::{Failure, Switch, Target};
 
 #[cfg(test)]

@@ -19,8 +19,8 @@ use Rattle.mc_script.specs.declared.acts.Act.TheVariants as acts
 use Rattle.mc_script.specs.Plays.{Asks, Begins, Leaves, May, Readings, caller, gaves, is_answer, is_gave, reader, selection, track_of}
 use Rattle.mc_lines.specs.declared.halt.Halt.{Halt}
 use Rattle.mc_lines.specs.declared.halt.Halt.TheVariants as halts
-use Rattle.mc_lines.specs.Calls.{Ahead, Jobs, LeavesNone, Reads, at}
-use Rattle.mc_lines.specs.Lines.{Orders, Stands, halt_of, is_packet}
+use Rattle.mc_lines.specs.Calls.{Ahead, AnswersOn, Jobs, Reads, at}
+use Rattle.mc_lines.specs.Lines.{Orders, ReadsOn, ReadsOne, Stands, halt_of, halted, is_packet}
 use Rattle.mc_lines.proofs.Parts.{begin, more}
 use Rattle.mc_lines.proofs.Counts.{any-one, count-one}
 use Rattle.mc_lines.proofs.Growing.{orders_none, orders_quiet}
@@ -45,17 +45,17 @@ may_give rd kind count old a k p e ask front =
     (subst (λ (n : ℕ). Asks kind count old a (reader kind) n) (sym e) ask, subst (λ (n : ℕ). rd.front (old ++ a) n ≡ Some (rank p.pos)) (sym e) front)
 
 pub next : (rd : Readings) (kind : Kind) (count : ℕ) (old now new : List DemuxRecord) (n k : ℕ) (r : Reading) (t : Given rd kind count old now n) → track_of (selection old) kind ≡ Some k → n < count
-    → Reads (at rd now) (reader kind) k now new (Ok r) → is_packet r ≡ true → Given rd kind count old new (n + 1)
-next rd kind count old now new n k (reads.Gave p) t track lt h is =
-    let w : WroteAll (reader kind) (gave_by (reader kind) p ∷ []) now new = h.2.1 in
-    let front : rd.front (old ++ t.begins.part) k ≡ Some (rank p.pos) = rw (← t.begins.grows) h.1 in
+    → Reads (at rd now) (reader kind) k now new (Ok r) → AnswersOn rd k now new (Ok r) → is_packet r ≡ true → Given rd kind count old new (n + 1)
+next rd kind count old now new n k (reads.Gave p) t track lt h a is =
+    let w : WroteAll (reader kind) (gave_by (reader kind) p ∷ []) now new = h.1.1 in
+    let front : rd.front (old ++ t.begins.part) k ≡ Some (rank p.pos) = rw (← t.begins.grows) h.0 in
     record {
       begins = more rd (acts.Read kind count) old now new (reader kind) (gave_by (reader kind) p) t.begins w refl
-          (may_give rd kind count old t.begins.part k p h.0 (asks rd kind count old now n k t track lt) front);
+          (may_give rd kind count old t.begins.part k p a (asks rd kind count old now n k t track lt) front);
       so_many = count-one is_gave (λ n m. refl, λ n. refl) (gave_by (reader kind) p) w t.begins.part ∙ ap (λ (m : ℕ). m + 1) t.so_many;
       on = any-one is_answer (λ n m. refl, λ n. refl) (gave_by (reader kind) p) w t.begins.part ∙ rw t.on refl;
     }
-next rd kind count old now new n k _ t track lt h is = absurd (cc)
+next rd kind count old now new n k _ t track lt h a is = absurd (cc)
 
 no_head : (rd : Readings) (old part now : List DemuxRecord) (k : ℕ) (o : Option ℕ) → o ≡ Some k → now ≡ old ++ part → rd.front now k ≡ None → IfSome o (λ j. rd.front (old ++ part) j ≡ None)
 no_head rd old part now k o e grows h = rw (e, ← grows) h
@@ -83,7 +83,7 @@ told rd kind count old now new k own b track none w c may =
     }
 
 pub last : (rd : Readings) (kind : Kind) (count : ℕ) (old now new : List DemuxRecord) (n k : ℕ) (r : Reading) (t : Given rd kind count old now n) → track_of (selection old) kind ≡ Some k → n < count
-    → Reads (at rd now) (reader kind) k now new (Ok r) → LeavesNone rd k now new (Ok r) → is_packet r ≡ false → Leaves rd (acts.Read kind count) None old new
+    → Reads (at rd now) (reader kind) k now new (Ok r) → AnswersOn rd k now new (Ok r) → is_packet r ≡ false → Leaves rd (acts.Read kind count) None old new
 last rd kind count old now new n k (reads.Gave p) t track lt h a is = absurd (cc)
 last rd kind count old now new n k reads.NotYet t track lt h a is = quiet rd kind count old now new n k t track h.0 h.2
 last rd kind count old now new n k reads.Unselected t track lt h a is = quiet rd kind count old now new n k t track h.0 h.2
@@ -104,7 +104,7 @@ unselected rd kind count old e = record { part = []; grows = sym (append-nil old
 
 -- a read writes no order, whatever a film says
 pub read_orders : (w : Ahead) (by k : ℕ) (old new : List DemuxRecord) (j j' : Jobs) (r : Result Reading DemuxError) → j' ≡ j → Reads w by k old new r → Orders old new j j'
-read_orders w by k old new j j' (Ok (reads.Gave p)) e h = orders_quiet by (gave_by by p) old new j j' refl refl h.2.1 e
+read_orders w by k old new j j' (Ok (reads.Gave p)) e h = orders_quiet by (gave_by by p) old new j j' refl refl h.1.1 e
 read_orders w by k old new j j' (Ok reads.NotYet) e h = orders_none old new j j' h.2 e
 read_orders w by k old new j j' (Ok reads.Unselected) e h = orders_none old new j j' h.2 e
 read_orders w by k old new j j' (Ok (reads.End ending)) e h = orders_quiet by (Ended by k ending) old new j j' refl refl h.2.1 e
@@ -124,3 +124,14 @@ read_stands w by k old new errors.NoMemory h = h
 -- the track that is read is the one that the journal says
 pub track_read : (w : Ahead) (rd : Readings) (old : List DemuxRecord) (set : Choice) (found : Option ℕ) (kind : Kind) → w ≡ at rd old → set ≡ w.set → found ≡ track_of set kind → track_of (selection old) kind ≡ found
 track_read w rd old set found kind e f g = sym (g ∙ ap (λ (x : Choice). track_of x kind) (f ∙ ap (λ (x : Ahead). x.set) e))
+
+-- one read
+pub read_ones : (w : Ahead) (by k : ℕ) (old new : List DemuxRecord) (r : Result Reading DemuxError) → Reads w by k old new r → ReadsOne w by k old new (halted r)
+read_ones w by k old new (Ok r) h = (r, h)
+read_ones w by k old new (Err e) h = read_stands w by k old new e h
+
+-- and on a film
+pub read_films : (rd : Readings) (w : Ahead) (by k : ℕ) (old new : List DemuxRecord) (r : Result Reading DemuxError) → w ≡ at rd old → Reads w by k old new r → AnswersOn rd k old new r
+    → ReadsOn rd by k old new (halted r)
+read_films rd w by k old new (Ok r) e h a = (r, subst (λ (x : Ahead). Reads x by k old new (Ok r)) e h, a)
+read_films rd w by k old new (Err x) e h a = read_stands w by k old new x h

@@ -21,7 +21,7 @@ use Rattle.mc_script.specs.Plays.{Begins, Leaves, May, MayDrain, OfEach, Reading
 use Rattle.mc_script.specs.Plays.{IsNext, Next as Step, give, tell, turn}
 use Rattle.mc_lines.specs.declared.next.Next.{Next}
 use Rattle.mc_lines.specs.declared.next.Next.TheVariants as nexts
-use Rattle.mc_lines.specs.Calls.{Ahead, AtRest, Outcome, Reads, Tells, at}
+use Rattle.mc_lines.specs.Calls.{Ahead, AnswersOn, AtRest, Outcome, Reads, Tells, at}
 use Rattle.mc_lines.specs.declared.halt.Halt.{Halt}
 use Rattle.mc_lines.specs.declared.halt.Halt.TheVariants as halts
 use Rattle.mc_lines.specs.Lines.{Grows, ReadsOne, Stands, Turns}
@@ -160,20 +160,20 @@ gave_packet rd old now new left kind k p same d n front w =
     )
 
 pub gave : (rd : Readings) (old now new : List DemuxRecord) (left : Choice) (kind : Kind) (k : ℕ) (r : Reading) → Drained rd old now left → IsNextBy (at rd now) left (nexts.Give kind k)
-    → Reads (at rd now) (reader kind) k now new (Ok r) → Drained rd old new left
-gave rd old now new left kind k (reads.Gave p) d n h = gave_packet rd old now new left kind k p h.0 d n h.1 h.2.1
-gave rd old now new left kind k reads.NotYet d n h = let e = sym n.1.1 ∙ h.0 in absurd (cc)
-gave rd old now new left kind k reads.Unselected d n h = let e = sym n.1.1 ∙ h.0 in absurd (cc)
-gave rd old now new left kind k (reads.End ending) d n h = let e = sym n.1.1 ∙ h.0 in absurd (cc)
-gave rd old now new left kind k (reads.Overfull forward max) d n h = let e = sym n.1.1 ∙ h.0 in absurd (cc)
-gave rd old now new left kind k (reads.Fault faults faults') d n h = let e = sym n.1.1 ∙ h.0 in absurd (cc)
-gave rd old now new left kind k reads.Wanting d n h = let e = sym n.1.1 ∙ h.0 in absurd (cc)
+    → Reads (at rd now) (reader kind) k now new (Ok r) → AnswersOn rd k now new (Ok r) → Drained rd old new left
+gave rd old now new left kind k (reads.Gave p) d n h a = gave_packet rd old now new left kind k p a d n h.0 h.1.1
+gave rd old now new left kind k reads.NotYet d n h a = let e = sym n.1.1 ∙ h.0 in absurd (cc)
+gave rd old now new left kind k reads.Unselected d n h a = let e = sym n.1.1 ∙ h.0 in absurd (cc)
+gave rd old now new left kind k (reads.End ending) d n h a = let e = sym n.1.1 ∙ h.0 in absurd (cc)
+gave rd old now new left kind k (reads.Overfull forward max) d n h a = let e = sym n.1.1 ∙ h.0 in absurd (cc)
+gave rd old now new left kind k (reads.Fault faults faults') d n h a = let e = sym n.1.1 ∙ h.0 in absurd (cc)
+gave rd old now new left kind k reads.Wanting d n h a = let e = sym n.1.1 ∙ h.0 in absurd (cc)
 
 -- ---- where an end or a failure is told
 
 pub told : (rd : Readings) (old now new : List DemuxRecord) (left : Choice) (kind : Kind) (k : ℕ) (r : Reading) → Drained rd old now left → IsNextBy (at rd now) left (nexts.Tell kind k)
     → Reads (at rd now) (reader kind) k now new (Ok r) → Drained rd old new (without left kind)
-told rd old now new left kind k (reads.Gave p) d n h = let e = sym (of_each left kind k (λ j. rd.front now j ≡ None) n.1 n.0) ∙ h.1 in absurd (cc)
+told rd old now new left kind k (reads.Gave p) d n h = let e = sym (of_each left kind k (λ j. rd.front now j ≡ None) n.1 n.0) ∙ h.0 in absurd (cc)
 told rd old now new left kind k reads.NotYet d n h = let e = sym n.2 ∙ h.1 in absurd (cc)
 told rd old now new left kind k reads.Unselected d n h = let e = sym n.2 ∙ h.1 in absurd (cc)
 told rd old now new left kind k (reads.Overfull forward max) d n h = let e = sym n.2 ∙ h.1 in absurd (cc)
@@ -232,7 +232,7 @@ finished rd old now left d e = record {
 
 -- a read that was seen to give a packet, or to tell an end or a failure, writes a record where it answers
 pub given_room : (w : Ahead) (by k : ℕ) (left : Choice) (kind : Kind) (now new : List DemuxRecord) (r : Reading) → IsNextBy w left (nexts.Give kind k) → Reads w by k now new (Ok r) → room new < room now
-given_room w by k left kind now new (reads.Gave p) n h = less_room h.2.0 h.2.1
+given_room w by k left kind now new (reads.Gave p) n h = less_room h.1.0 h.1.1
 given_room w by k left kind now new reads.NotYet n h = let e = sym n.1.1 ∙ h.0 in absurd (cc)
 given_room w by k left kind now new reads.Unselected n h = let e = sym n.1.1 ∙ h.0 in absurd (cc)
 given_room w by k left kind now new (reads.End ending) n h = less_room h.2.0 h.2.1
@@ -241,7 +241,7 @@ given_room w by k left kind now new (reads.Fault faults faults') n h = less_room
 given_room w by k left kind now new reads.Wanting n h = less_room h.2.0 h.2.1
 
 pub told_room : (w : Ahead) (by k : ℕ) (left : Choice) (kind : Kind) (now new : List DemuxRecord) (r : Reading) → IsNextBy w left (nexts.Tell kind k) → Reads w by k now new (Ok r) → room new < room now
-told_room w by k left kind now new (reads.Gave p) n h = less_room h.2.0 h.2.1
+told_room w by k left kind now new (reads.Gave p) n h = less_room h.1.0 h.1.1
 told_room w by k left kind now new reads.NotYet n h = let e = sym n.2 ∙ h.1 in absurd (cc)
 told_room w by k left kind now new reads.Unselected n h = let e = sym n.2 ∙ h.1 in absurd (cc)
 told_room w by k left kind now new (reads.End ending) n h = less_room h.2.0 h.2.1
@@ -254,7 +254,7 @@ turned_room w before after now new h = less_room h.0 h.1.wrote
 
 -- a read brings no outcome
 pub read_grows : (w : Ahead) (by k a : ℕ) (old new : List DemuxRecord) (r : Result Reading DemuxError) → Reads w by k old new r → Grows a a old new
-read_grows w by k a old new (Ok (reads.Gave p)) h = grows_quiet a by (gave_by by p) old new refl h.2.1
+read_grows w by k a old new (Ok (reads.Gave p)) h = grows_quiet a by (gave_by by p) old new refl h.1.1
 read_grows w by k a old new (Ok reads.NotYet) h = grows_none a a old new (omega arith) h.2
 read_grows w by k a old new (Ok reads.Unselected) h = grows_none a a old new (omega arith) h.2
 read_grows w by k a old new (Ok (reads.End ending)) h = grows_quiet a by (Ended by k ending) old new refl h.2.1

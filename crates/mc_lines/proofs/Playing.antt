@@ -150,14 +150,14 @@ brought_stale rd job taken old new j idle a differ e =
 pub given : (rd : Readings) (job : Job) (taken : Option (List DemuxRecord)) (before after : ℕ) (old new : List DemuxRecord) (j j' : Jobs) (r : Result Taken DemuxError) → IsOut rd (Some job) taken old j
     → Brings job before after old new j j' r → Line rd acts.DemuxGive taken old new (settled r)
 given rd job None before after old new j j' r h b = absurd h
-given rd job (Some taken) before after old new j j' (Ok takens.Taken) h b = brought_fresh rd job taken old new j before after h.0 h.1 b.0 b.2
+given rd job (Some taken) before after old new j j' (Ok takens.Taken) h b = brought_fresh rd job taken old new j before after h.0 h.1 b.0 b.1
 given rd job (Some taken) before after old new j j' (Ok (takens.Stale asked now)) h b = brought_stale rd job taken old new j h.0 h.1 b.0 b.1
 given rd job (Some taken) before after old new j j' (Err (errors.Refused why)) h b = absurd b
 given rd job (Some taken) before after old new j j' (Err errors.JournalFull) h b = (none rd acts.DemuxGive old new b.0, rw b.0 b.2)
 given rd job (Some taken) before after old new j j' (Err errors.NoMemory) h b = none rd acts.DemuxGive old new b.0
 
 pub given_grows : (job : Job) (before after : ℕ) (old new : List DemuxRecord) (j j' : Jobs) (r : Result Taken DemuxError) → before ≤ after → Brings job before after old new j j' r → Grows before after old new
-given_grows job before after old new j j' (Ok takens.Taken) l b = grows_outcome before after old new l b.2
+given_grows job before after old new j j' (Ok takens.Taken) l b = grows_outcome before after old new l b.1
 given_grows job before after old new j j' (Ok (takens.Stale asked now)) l b = grows_none before after old new l b.1
 given_grows job before after old new j j' (Err (errors.Refused why)) l b = absurd b
 given_grows job before after old new j j' (Err errors.JournalFull) l b = grows_none before after old new l b.0

@@ -113,7 +113,7 @@ Shows by old new j j' (Err e) = Fails old new j j' e
 
 abbrev pub Takes : Ahead → List DemuxRecord → List DemuxRecord → Jobs → Jobs → Result Job DemuxError → Type 0
 Takes w old new j j' (Ok Idle) = (new ≡ old) × (j'.number ≡ j.number) × (w.idle ≡ true)
-Takes w old new j j' (Ok job) = (new ≡ old) × (j'.number ≡ j.number) × (w.idle ≡ false) × (number_of job ≡ Some j.number) × (j'.kept ≡ Some job)
+Takes w old new j j' (Ok job) = HasRoom old × (new ≡ old) × (j'.number ≡ j.number) × (w.idle ≡ false) × (number_of job ≡ Some j.number) × (j'.kept ≡ Some job)
 Takes w old new j j' (Err e) = Fails old new j j' e
 
 -- a failure tells counts of faults between which the shelf's count rose, and which lie in these bounds
@@ -131,7 +131,7 @@ pub record Outcome (before after : ℕ) (old new : List DemuxRecord) : Type 0 wh
 
 -- a job was done and its outcome brought
 abbrev pub Brings : Job → ℕ → ℕ → List DemuxRecord → List DemuxRecord → Jobs → Jobs → Result Taken DemuxError → Type 0
-Brings job before after old new j j' (Ok takens.Taken) = (number_of job ≡ Some j.number) × HasRoom old × Outcome before after old new × (j.number < j'.number)
+Brings job before after old new j j' (Ok takens.Taken) = (number_of job ≡ Some j.number) × Outcome before after old new × (j.number < j'.number)
 Brings job before after old new j j' (Ok (takens.Stale asked now)) = (number_of job ≡ Some j.number → ⊥) × (new ≡ old) × (j' ≡ j)
 Brings job before after old new j j' (Err e) = Fails old new j j' e
 
@@ -140,7 +140,7 @@ abbrev pub Tells : ℕ → DemuxRecord → List DemuxRecord → List DemuxRecord
 Tells by own old new = HasRoom old × WroteAll by (own ∷ []) old new
 
 abbrev pub Reads : Ahead → ℕ → ℕ → List DemuxRecord → List DemuxRecord → Result Reading DemuxError → Type 0
-Reads w by k old new (Ok (reads.Gave p)) = (p.track ≡ k) × (w.front k ≡ Some (rank p.pos)) × Tells by (gave_by by p) old new
+Reads w by k old new (Ok (reads.Gave p)) = (w.front k ≡ Some (rank p.pos)) × Tells by (gave_by by p) old new
 Reads w by k old new (Ok reads.NotYet) = (w.front k ≡ None) × (w.tells k ≡ false) × (new ≡ old)
 Reads w by k old new (Ok (reads.End ending)) = (w.front k ≡ None) × (w.tells k ≡ true) × Tells by (Ended by k ending) old new
 Reads w by k old new (Ok (reads.Overfull forward max)) = (w.front k ≡ None) × (w.tells k ≡ false) × Tells by (Overfull by k forward max) old new
@@ -151,11 +151,11 @@ Reads w by k old new (Err (errors.Refused why)) = ⊥
 Reads w by k old new (Err errors.JournalFull) = (new ≡ old) × (16000000 ≤ length old)
 Reads w by k old new (Err errors.NoMemory) = new ≡ old
 
--- a read that gives no packet, since none stands at the head, leaves it so
-abbrev pub LeavesNone : Readings → ℕ → List DemuxRecord → List DemuxRecord → Result Reading DemuxError → Type 0
-LeavesNone rd k old new (Ok (reads.Gave p)) = ⊤
-LeavesNone rd k old new (Ok _) = rd.front old k ≡ None → rd.front new k ≡ None
-LeavesNone rd k old new (Err e) = ⊤
+-- on a film a packet is of the track that was asked, and an answer that gives none, since none stands at the head, leaves it so
+abbrev pub AnswersOn : Readings → ℕ → List DemuxRecord → List DemuxRecord → Result Reading DemuxError → Type 0
+AnswersOn rd k old new (Ok (reads.Gave p)) = p.track ≡ k
+AnswersOn rd k old new (Ok _) = rd.front old k ≡ None → rd.front new k ≡ None
+AnswersOn rd k old new (Err e) = ⊤
 
 abbrev pub Peeks : Ahead → ℕ → Peek → Type 0
 Peeks w k (peeks.Packet pos) = w.front k ≡ Some (rank pos)

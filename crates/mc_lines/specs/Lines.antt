@@ -11,7 +11,7 @@ use Rattle.mc_script.specs.declared.acts.Act.{Act}
 use Rattle.mc_script.specs.Plays.{Begins, Leaves, Readings, is_order, is_outcome}
 use Rattle.mc_lines.specs.declared.halt.Halt.{Halt}
 use Rattle.mc_lines.specs.declared.halt.Halt.TheVariants as halts
-use Rattle.mc_lines.specs.Calls.{Ahead, FailsIn, Jobs, Outcome, Reads}
+use Rattle.mc_lines.specs.Calls.{Ahead, AnswersOn, FailsIn, Jobs, Outcome, Reads, at}
 
 -- a refusal ends a line and not the script
 abbrev pub settled : {T : Type 0} → Result T DemuxError → Result Unit Halt
@@ -24,6 +24,10 @@ abbrev pub halt_of : DemuxError → Halt
 halt_of errors.JournalFull = halts.JournalFull
 halt_of (errors.Refused why) = halts.NoMemory
 halt_of errors.NoMemory = halts.NoMemory
+
+abbrev pub halted : {T : Type 0} → Result T DemuxError → Result Unit Halt
+halted (Ok x) = Ok tt
+halted (Err e) = Err (halt_of e)
 
 abbrev pub is_packet : Reading → Bool
 is_packet (reads.Gave p) = true
@@ -50,6 +54,11 @@ Stands old new halts.NoMemory = new ≡ old
 abbrev pub ReadsOne : Ahead → ℕ → ℕ → List DemuxRecord → List DemuxRecord → Result Unit Halt → Type 0
 ReadsOne w by k old new (Ok u) = (r : Reading) × Reads w by k old new (Ok r)
 ReadsOne w by k old new (Err e) = Stands old new e
+
+-- the same on a film
+abbrev pub ReadsOn : Readings → ℕ → ℕ → List DemuxRecord → List DemuxRecord → Result Unit Halt → Type 0
+ReadsOn rd by k old new (Ok u) = (r : Reading) × Reads (at rd old) by k old new (Ok r) × AnswersOn rd k old new (Ok r)
+ReadsOn rd by k old new (Err e) = Stands old new e
 
 -- one outcome was written, or there was nothing to do
 abbrev pub Turns : Ahead → ℕ → ℕ → List DemuxRecord → List DemuxRecord → Result Bool Halt → Type 0

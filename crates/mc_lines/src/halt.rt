@@ -1,5 +1,5 @@
 ghost use Rattle.std.specs.Prelude.{◌≡◌};
-ghost use Rattle.mc_lines.specs.Lines.{halt_of as halt_lem, settled as settled_lem};
+ghost use Rattle.mc_lines.specs.Lines.{halt_of as halt_lem, halted as halted_lem, settled as settled_lem};
 
 use mc_demux::DemuxError;
 
@@ -21,6 +21,16 @@ pub(crate) fn settled<T: Drop>(answer: Result<T, DemuxError>) -> Result<(), Halt
         Err(DemuxError::Refused(_)) => Ok(()),
         Err(DemuxError::JournalFull) => Err(Halt::JournalFull),
         Err(DemuxError::NoMemory) => Err(Halt::NoMemory),
+    }
+}
+
+/// Of a call that refuses nothing, without what it gives.
+pub(crate) fn halted<T: Drop>(answer: Result<T, DemuxError>) -> Result<(), Halt>
+    ensures { result ≡ halted_lem answer }
+{
+    match answer {
+        Ok(_) => Ok(()),
+        Err(error) => Err(halt_of(error)),
     }
 }
 

@@ -9,7 +9,7 @@ pub trait Machine {
     ghost use Rattle.mc_outside.specs.Shelf.{content};
     ghost use Rattle.mc_journal.specs.declared.record.DemuxRecord.{DemuxRecord};
     ghost use Rattle.mc_script.specs.Plays.{Readings};
-    ghost use Rattle.mc_lines.specs.Calls.{Ahead, AtRest, Bears, Brings, Jobs, LeavesNone, Peeks, Reads, Seeks, Selects, Shows, Takes, at};
+    ghost use Rattle.mc_lines.specs.Calls.{Ahead, AnswersOn, AtRest, Bears, Brings, Jobs, Peeks, Reads, Seeks, Selects, Shows, Takes, at};
 
     ghost journal: { Self → List DemuxRecord };
 
@@ -58,7 +58,7 @@ pub trait Machine {
     fn read(&mut self, by: u32, track: TrackNo) -> Result<Reading, DemuxError>
         ensures reads { Reads (ahead self.old) by track (journal self.old) (journal self.new) result }
         ensures jobs { jobs self.new ≡ jobs self.old }
-        ensures still { (octets : List ℕ) (rd : Readings) → stands self.old octets rd → LeavesNone rd track (journal self.old) (journal self.new) result }
+        ensures film { (octets : List ℕ) (rd : Readings) → stands self.old octets rd → AnswersOn rd track (journal self.old) (journal self.new) result }
         ensures stands { (octets : List ℕ) (rd : Readings) → stands self.old octets rd → stands self.new octets rd }
         ensures file { file self.new ≡ file self.old };
 

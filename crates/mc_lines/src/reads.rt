@@ -1,9 +1,9 @@
 ghost use Rattle.std.specs.Prelude.{◌≡◌, None, List, ℕ};
 ghost use Rattle.mc_script.specs.declared.acts.Act.TheVariants.{Read};
 ghost use Rattle.mc_script.specs.Plays.{Readings, reader as reader_lem, track_of as track_lem};
-ghost use Rattle.mc_lines.specs.Lines.{IsFull, Line, Orders, ReadsOne, is_packet as packet_lem};
+ghost use Rattle.mc_lines.specs.Lines.{IsFull, Line, Orders, ReadsOn, ReadsOne, is_packet as packet_lem};
 
-use crate::halt::{Halt, halt_of};
+use crate::halt::{Halt, halt_of, halted};
 use crate::machine::Machine;
 use mc_demux::Reading;
 use mc_packet::{Choice, Kind, TrackNo};
@@ -38,13 +38,11 @@ fn is_packet(reading: &Reading) -> bool
 /// One read of a kind's track; what it answered stands in the journal.
 pub(crate) fn read_one<M: Machine>(machine: &mut M, kind: Kind, track: TrackNo) -> Result<(), Halt>
     ensures reads { ReadsOne (M.ahead machine.old) (reader_lem kind) track (M.journal machine.old) (M.journal machine.new) result }
+    ensures film { (octets : List ℕ) (rd : Readings) → M.stands machine.old octets rd → ReadsOn rd (reader_lem kind) track (M.journal machine.old) (M.journal machine.new) result }
     ensures stands { (octets : List ℕ) (rd : Readings) → M.stands machine.old octets rd → M.stands machine.new octets rd }
     ensures file { M.file machine.new ≡ M.file machine.old }
 {
-    match machine.read(reader(kind), track) {
-        Ok(_) => Ok(()),
-        Err(error) => Err(halt_of(error)),
-    }
+    halted(machine.read(reader(kind), track))
 }
 
 /// So many packets of the kind's selected track, or fewer where another answer comes.

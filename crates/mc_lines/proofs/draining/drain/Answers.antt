@@ -3,7 +3,7 @@ use Rattle.std.specs.Prelude.{Ok, Some, true, false}
 use Rattle.mc_script.specs.Plays.{reader}
 use Rattle.mc_lines.specs.declared.next.Next.TheVariants as nexts
 use Rattle.mc_lines.proofs.Drained.{gave, one_grows, start_on, told, turned}
-use Rattle.mc_lines.proofs.Filming.{next_on, read_on, turns_on}
+use Rattle.mc_lines.proofs.Filming.{next_on, turns_on}
 use Rattle.mc_lines.proofs.Growing.{grows_none, grows_on}
 use Rattle.mc_lines.proofs.Turning.{told_still, turn_grows}
 use Rattle.mc_lines.proofs.draining.drain.Goals as goal
@@ -22,15 +22,14 @@ loop-left-preserved-in_ok-read_one-in-Give g c =
     let inv = c.loop-left.invariant in
     let kind = c.in-Give.kind in
     let track = c.in-Give.track in
-    let one = c.in_ok-read_one-in-Give.ensures.reads in
     record {
       played = λ octets rd told s.
           let now = inv.played octets rd told s in
           let stands = c.read_one.ensures.stands octets rd now.0 in
           let old_film = g.met.M.Machine.shows_film c.loop-left.machine octets rd now.0 in
           let next = next_on rd (g.M.Machine.ahead c.loop-left.machine) _ c.loop-left.left (nexts.Give kind track) old_film c.in-Give.ensures in
-          let read = read_on rd (g.M.Machine.ahead c.loop-left.machine) (reader kind) (reader kind) track _ _ (Ok one.0) old_film refl one.1 in
-          (stands, gave rd _ _ _ c.loop-left.left kind track one.0 now.1 next read);
+          let one = c.in_ok-read_one-in-Give.ensures.film octets rd now.0 in
+          (stands, gave rd _ _ _ c.loop-left.left kind track one.0 now.1 next one.1 one.2);
       grows = grows_on _ _ _ _ _ _ inv.grows (one_grows (g.M.Machine.ahead c.loop-left.machine) (reader kind) track _ _ _ c.read_one.result c.read_one.ensures.reads);
       file = c.read_one.ensures.file ∙ inv.file;
       files = inv.files;
@@ -42,15 +41,14 @@ loop-left-preserved-in-Tell g c =
     let inv = c.loop-left.invariant in
     let kind = c.in-Tell.kind in
     let track = c.in-Tell.track in
-    let one = c.in_ok-read_one-in-Tell.ensures.reads in
     record {
       played = λ octets rd said s.
           let now = inv.played octets rd said s in
           let stands = c.read_one-in-Tell.ensures.stands octets rd now.0 in
           let old_film = g.met.M.Machine.shows_film c.loop-left.machine octets rd now.0 in
           let next = next_on rd (g.M.Machine.ahead c.loop-left.machine) _ c.loop-left.left (nexts.Tell kind track) old_film c.in-Tell.ensures in
-          let read = read_on rd (g.M.Machine.ahead c.loop-left.machine) (reader kind) (reader kind) track _ _ (Ok one.0) old_film refl one.1 in
-          (stands, rw c.without-left.ensures (told rd _ _ _ c.loop-left.left kind track one.0 now.1 next read));
+          let one = c.in_ok-read_one-in-Tell.ensures.film octets rd now.0 in
+          (stands, rw c.without-left.ensures (told rd _ _ _ c.loop-left.left kind track one.0 now.1 next one.1));
       grows = grows_on _ _ _ _ _ _ inv.grows (one_grows (g.M.Machine.ahead c.loop-left.machine) (reader kind) track _ _ _ c.read_one-in-Tell.result c.read_one-in-Tell.ensures.reads);
       file = c.read_one-in-Tell.ensures.file ∙ inv.file;
       files = inv.files;

@@ -1,7 +1,5 @@
-pub mod Onto
-pub mod Fronts
-pub mod Legality
-pub mod Chunks
-pub mod Films
-pub mod Going
-pub mod RunLaws
+-- How a run comes from what it opens and plays.
+pub mod Texts
+pub mod Stops
+pub mod Endings
+pub mod Plays

@@ -1,3 +1,6 @@
-pub mod Reading
-pub mod Steps
+-- What a run of a script over a film does: which script and which film the words name, how it ends and why, and what it
+-- leaves in the journal and in the text.
+pub mod Texts
+pub mod Asked
+pub mod Opening
 pub mod Run

@@ -1,29 +1,66 @@
 -- How a run ends, and what it leaves.
-use Rattle.std.specs.Prelude.{◌≡◌, ◌⊎◌, ℕ, List, [], take, Option, Some, None, Result, Ok, Err, ⊤}
-use Rattle.mc_packet.specs.declared.walk.Ending.{Ending}
+use Rattle.std.specs.Prelude.{◌≡◌, ◌⊎◌, ℕ, ◌≤◌, Bool, true, false, if◌then◌else◌, List, [], ◌∷◌, length, reverse, Option, Some, None, Result, Ok, Err, ⊤}
+use Rattle.std.specs.List.{list_any}
 use Rattle.mc_packet.specs.declared.choice.Choice.{Choice}
+use Rattle.mc_packet.specs.declared.cache.Limits.{Limits}
 use Rattle.mc_outside.specs.Causes.{Rose}
-use Rattle.std.specs.declared.alloc.AllocError.{AllocError}
-use Rattle.mc_outside.specs.Shelf.{Files, Opened, Lacks, content}
+use Rattle.mc_outside.specs.Shelf.{Files}
+use Rattle.mc_outside.specs.Sink.{Grows as TextGrows, GrowsByFront}
 use Rattle.mc_outside.specs.declared.sink.SinkError.{SinkError}
 use Rattle.mc_outside.specs.declared.sink.SinkError.TheVariants as faults
-use Rattle.mc_walk.specs.Opening.{opened_film}
-use Rattle.mc_cursor.specs.declared.cursor.Cursor.{Cursor}
-use Rattle.mc_cursor.specs.Reads.{Told}
-use Rattle.mc_play.specs.Steps.{OpensFilm}
-use Rattle.mc_outside.specs.Sink.{Grows, GrowsByFront}
 use Rattle.mc_tracks.specs.TrackList.{default_choice_of}
-use Rattle.mc_film.specs.declared.whole.WholeFilm.{WholeFilm}
-use Rattle.mc_film.specs.Film.{film_of}
+use Rattle.mc_walk.specs.declared.plan.Plan.{Plan}
+use Rattle.mc_walk.specs.Opening.{opened_film}
+use Rattle.mc_index.specs.Fronts.{film_told, known_in}
 use Rattle.mc_journal.specs.declared.record.DemuxRecord.{DemuxRecord}
+use Rattle.mc_journal.specs.declared.record.DemuxRecord.TheVariants.{Opened, Failed, Starved}
+use Rattle.mc_journal.specs.Films.{IsRegular}
+use Rattle.mc_journal.specs.Legal.{IsGapless, IsLegal}
+use Rattle.mc_journal.specs.Used.{IsUsed}
+use Rattle.mc_world.specs.Filmed.{film_for}
+use Rattle.mc_world.specs.Machines.{choice_for}
+use Rattle.mc_script.specs.declared.acts.Act.{Act}
 use Rattle.mc_script.specs.declared.exit.Exit.{Exit}
 use Rattle.mc_script.specs.declared.exit.Exit.TheVariants as exits
 use Rattle.mc_script.specs.declared.exit.ShelfCause.{ShelfCause}
 use Rattle.mc_script.specs.declared.exit.ShelfCause.TheVariants as causes
+use Rattle.mc_script.specs.declared.options.RunLine.{RunLine}
+use Rattle.mc_script.specs.Plays.{readings}
 use Rattle.mc_script.specs.Transcript.{transcript}
-use Rattle.mc_play.specs.declared.journal.Stop.{Stop}
-use Rattle.mc_play.specs.declared.journal.Stop.TheVariants as stops
-use Rattle.mc_play.specs.Reading.{IsReading, stopped_by, LegalFor, EndsEach}
+use Rattle.mc_lines.specs.declared.halt.Halt.{Halt}
+use Rattle.mc_lines.specs.declared.halt.Halt.TheVariants as halts
+use Rattle.mc_lines.specs.Lines.{Grows, IsFull}
+use Rattle.mc_lines.specs.Runs.{Runs}
+use Rattle.mc_play.specs.Asked.{FileIs, ScriptIs, Stopped, name_at}
+
+-- ---- the steps
+
+-- A script was played over a film: each record of the journal stands in its place, under these limits. So what each reader
+-- was given since its last seek or switch is a front of a fresh reading where the film is regular, and a run of its track's
+-- packets in any case. The journal is one opening with the default tracks, and behind it what the lines leave, one after the
+-- other: all of them, or, where it halts, those before it and a part of the next.
+pub record Plays (plan : Plan) (limits : Limits) (lines : List (ℕ × Act)) (halt : Result Unit Halt) (hd : List DemuxRecord) : Type 0 where
+  pub runs : Runs (readings (film_for plan) limits (choice_for plan.tracks)) lines (Opened 0 (default_choice_of plan.tracks) ∷ []) hd halt
+  pub used : IsUsed (film_for plan) limits (reverse hd)
+  pub legal : IsRegular (film_told plan) (known_in plan.tracks) → IsLegal (film_told plan) (film_for plan).ending (reverse hd)
+  pub gapless : IsGapless (film_told plan) (film_for plan).ending (reverse hd)
+
+-- the told film's; where none is told, any
+abbrev pub PlaysFilm : Option Files → List (List ℕ) → RunLine → List (ℕ × Act) → Result Unit Halt → List DemuxRecord → Type 0
+PlaysFilm files words line lines halt hd =
+    FileIs files (name_at words line.file) (λ octets. (plan : Plan) × (opened_film octets ≡ Ok plan) × Plays plan line.limits lines halt hd)
+
+-- the steps of the script that the words name were made over the film that they name. Whatever the shelf tells, one opening
+-- stands first, and each failure bears counts of faults between those before and now
+pub record Stepped (files : Option Files) (words : List (List ℕ)) (line : RunLine) (before now : ℕ) (halt : Result Unit Halt) (hd : List DemuxRecord) : Type 0 where
+  pub lines : List (ℕ × Act)
+  pub script : ScriptIs files words line.script lines
+  pub film : PlaysFilm files words line lines halt hd
+  pub set : Choice
+  pub grows : Grows before now (Opened 0 set ∷ []) hd
+  pub full : IsFull hd halt
+
+-- ---- the ways to end
 
 -- the counts of faults of a shelf and of a sink, before and after
 pub record Counts : Type 0 where
@@ -32,130 +69,85 @@ pub record Counts : Type 0 where
   pub sink_before : ℕ
   pub sink_now : ℕ
 
--- a shelf is the cause: its count rose, or it lacks the file of the word after `run`
-abbrev pub CausedBy : Option Files → List ℕ → ℕ → ℕ → ShelfCause → Type 0
-CausedBy files name before now (causes.Rose b n) = (b ≡ before) × (n ≡ now) × Rose before now
-CausedBy files name before now (causes.NoFile word) = (word ≡ 1) × Lacks files name
+abbrev pub is_failed : DemuxRecord → Bool
+is_failed (Failed by before after) = true
+is_failed _ = false
 
--- the film that a told file is; where no files are told, any
-abbrev pub IsFilmOf : Option Files → List ℕ → WholeFilm → Type 0
-IsFilmOf None name film = ⊤
-IsFilmOf (Some files) name film = (octets : List ℕ) × (files name ≡ Some octets) × (film_of octets ≡ Ok film)
+abbrev pub is_starved : DemuxRecord → Bool
+is_starved (Starved by) = true
+is_starved _ = false
 
--- a told file is refused so
-abbrev pub IsRefusedAs : Option Files → List ℕ → Exit → Type 0
-IsRefusedAs None name (exits.File refused) = ⊤
-IsRefusedAs (Some files) name (exits.File refused) = (octets : List ℕ) × (files name ≡ Some octets) × (film_of octets ≡ Err refused)
-IsRefusedAs files name _ = ⊥
+-- a shelf's refusal: nothing was done, or a read failed among the steps
+abbrev pub ShelfEnds : Option Files → List (List ℕ) → RunLine → ℕ → ℕ → List DemuxRecord → ShelfCause → Type 0
+ShelfEnds files words line before now hd cause =
+    ((hd ≡ []) × Stopped files words line before now (exits.Shelf cause))
+    ⊎ (Stepped files words line before now (Ok tt) hd × (list_any is_failed hd ≡ true) × (cause ≡ causes.Rose before now) × Rose before now)
 
--- why the film was not opened: the words, the shelf, or what stands before the Clusters; want of memory is free
-abbrev pub Stopped : Option Files → Option (List ℕ) → ℕ → ℕ → Exit → Type 0
-Stopped files name before now exits.NoMemory = ⊤
-Stopped files name before now exits.Usage = name ≡ None
-Stopped files None before now (exits.Shelf cause) = ⊥
-Stopped files (Some name) before now (exits.Shelf cause) = CausedBy files name before now cause
-Stopped files None before now (exits.File refused) = ⊥
-Stopped files (Some name) before now (exits.File refused) = IsRefusedAs files name (exits.File refused)
-Stopped files name before now exits.Done = ⊥
-Stopped files name before now exits.Sink = ⊥
+-- whether the steps were reached, and the cause of each way to end, of a line that the words say
+abbrev pub EndsLine : Option Files → List (List ℕ) → RunLine → Counts → List DemuxRecord → Exit → Type 0
+EndsLine files words line n hd exits.Done =
+    Stepped files words line n.shelf_before n.shelf_now (Ok tt) hd × (list_any is_failed hd ≡ false) × (list_any is_starved hd ≡ false)
+EndsLine files words line n hd exits.Sink = ((halt : Result Unit Halt) × Stepped files words line n.shelf_before n.shelf_now halt hd) × Rose n.sink_before n.sink_now
+EndsLine files words line n hd exits.JournalFull = Stepped files words line n.shelf_before n.shelf_now (Err halts.JournalFull) hd
+EndsLine files words line n hd exits.NoMemory = (hd ≡ []) ⊎ ((halt : Result Unit Halt) × Stepped files words line n.shelf_before n.shelf_now halt hd)
+EndsLine files words line n hd (exits.Shelf cause) = ShelfEnds files words line n.shelf_before n.shelf_now hd cause
+EndsLine files words line n hd (exits.Script at why) = (hd ≡ []) × Stopped files words line n.shelf_before n.shelf_now (exits.Script at why)
+EndsLine files words line n hd (exits.File refused) = (hd ≡ []) × Stopped files words line n.shelf_before n.shelf_now (exits.File refused)
+EndsLine files words line n hd exits.Usage = ⊥
 
--- a cursor stands at the opening of the film that the told file is
-abbrev pub IsOpened : Option Files → Opened → Option (List ℕ) → Cursor → Type 0
-IsOpened files opened None c = ⊥
-IsOpened None opened (Some name) c = ⊤
-IsOpened (Some files) opened (Some name) c =
-    (octets : List ℕ) × (files name ≡ Some octets) × (content (Some files) opened c.file.0 ≡ Some octets) × OpensFilm (Some octets) c
+abbrev pub IsUsage : Exit → Type 0
+IsUsage exits.Usage = ⊤
+IsUsage _ = ⊥
 
--- why an opened file is no film
-abbrev pub WasStopped : Option (List ℕ) → ℕ → ℕ → Exit → Type 0
-WasStopped told before now exits.NoMemory = ⊤
-WasStopped told before now (exits.Shelf (causes.Rose b n)) = (b ≡ before) × (n ≡ now) × Rose before now
-WasStopped told before now (exits.Shelf (causes.NoFile word)) = ⊥
-WasStopped told before now (exits.File refused) = Told told (λ octets. opened_film octets ≡ Err refused)
-WasStopped told before now exits.Usage = ⊥
-WasStopped told before now exits.Done = ⊥
-WasStopped told before now exits.Sink = ⊥
+-- the words are not in the grammar exactly at `Usage`
+abbrev pub Ends : Option Files → List (List ℕ) → Option RunLine → Counts → List DemuxRecord → Exit → Type 0
+Ends files words None n hd exit = IsUsage exit × (hd ≡ [])
+Ends files words (Some line) n hd exit = EndsLine files words line n hd exit
 
--- the film was opened, and read up to where it stopped; `last` says what was told then, of the selected tracks
-abbrev pub Reached : Option Files → Option (List ℕ) → ℕ → ℕ → List DemuxRecord → Stop → (Choice → List DemuxRecord) → Type 0
-Reached files None before now hd stop last = ⊥
-Reached files (Some name) before now hd stop last =
-    (film : WholeFilm) × IsFilmOf files name film × IsReading film before now hd stop (last (default_choice_of film.tracks))
+-- ---- the text
 
--- and all of it was told
-abbrev pub ReachedWhole : Option Files → Option (List ℕ) → ℕ → ℕ → List DemuxRecord → Stop → Type 0
-ReachedWhole files name before now hd stop = Reached files name before now hd stop (λ set. stopped_by set stop)
-
--- or, where memory was wanting, a front of it
-abbrev pub ReachedPartly : Option Files → Option (List ℕ) → ℕ → ℕ → List DemuxRecord → Type 0
-ReachedPartly files name before now hd = (stop : Stop) × (n : ℕ) × Reached files name before now hd stop (λ set. take n (stopped_by set stop))
-
--- the film's ending was reached, or a read failed
-abbrev pub EndsThere : Option Files → Option (List ℕ) → ℕ → ℕ → List DemuxRecord → Type 0
-EndsThere files name before now hd = (ending : Ending) × ReachedWhole files name before now hd (stops.Ended ending)
-
-abbrev pub FailsThere : Option Files → Option (List ℕ) → ℕ → ℕ → List DemuxRecord → Type 0
-FailsThere files name before now hd = (b : ℕ) × (a : ℕ) × ReachedWhole files name before now hd (stops.Failed b a)
-
--- a shelf's refusal: the film was not opened, or a read failed among the steps
-abbrev pub ShelfEnds : Option Files → Option (List ℕ) → ℕ → ℕ → List DemuxRecord → ShelfCause → Type 0
-ShelfEnds files name before now hd cause =
-    ((hd ≡ []) × Stopped files name before now (exits.Shelf cause))
-    ⊎ ((cause ≡ causes.Rose before now) × FailsThere files name before now hd)
-
--- where the film was opened and where not, and the cause of each way to end. The words are not in the grammar exactly
--- at Usage; the header is refused exactly at File, where nothing came before
-abbrev pub Ends : Option Files → Option (List ℕ) → Counts → List DemuxRecord → Exit → Type 0
-Ends files name n hd exits.Done = EndsThere files name n.shelf_before n.shelf_now hd
-Ends files name n hd exits.Sink =
-    (EndsThere files name n.shelf_before n.shelf_now hd ⊎ FailsThere files name n.shelf_before n.shelf_now hd) × Rose n.sink_before n.sink_now
-Ends files name n hd exits.NoMemory = (hd ≡ []) ⊎ ReachedPartly files name n.shelf_before n.shelf_now hd
-Ends files name n hd exits.Usage = (hd ≡ []) × (name ≡ None)
-Ends files name n hd (exits.Shelf cause) = ShelfEnds files name n.shelf_before n.shelf_now hd cause
-Ends files name n hd (exits.File refused) = (hd ≡ []) × Stopped files name n.shelf_before n.shelf_now (exits.File refused)
-
--- what a told sink has then: the whole transcript, a front of it, or nothing more. Where the film was not opened the
--- journal is empty, and so is its transcript
+-- what a told sink has then: the whole transcript, a front of it, or nothing more
 abbrev pub Written : Option (List ℕ) → Option (List ℕ) → List DemuxRecord → Exit → Type 0
-Written old new hd exits.Done = Grows old new (transcript hd)
-Written old new hd (exits.Shelf cause) = Grows old new (transcript hd)
+Written old new hd exits.Done = TextGrows old new (transcript hd)
+Written old new hd (exits.Shelf cause) = TextGrows old new (transcript hd)
+Written old new hd exits.JournalFull = TextGrows old new (transcript hd)
 Written old new hd exits.NoMemory = GrowsByFront old new (transcript hd)
 Written old new hd exits.Sink = GrowsByFront old new (transcript hd)
 Written old new hd exits.Usage = new ≡ old
 Written old new hd (exits.File refused) = new ≡ old
+Written old new hd (exits.Script line why) = new ≡ old
 
 -- how writing went
-abbrev pub WroteWell : Option (List ℕ) → Option (List ℕ) → List DemuxRecord → Result (Unit {0}) SinkError → Type 0
-WroteWell old new hd (Ok done) = Grows old new (transcript hd)
+abbrev pub WroteWell : Option (List ℕ) → Option (List ℕ) → List DemuxRecord → Result Unit SinkError → Type 0
+WroteWell old new hd (Ok done) = TextGrows old new (transcript hd)
 WroteWell old new hd (Err e) = GrowsByFront old new (transcript hd)
 
-abbrev pub WriteFits : ℕ → ℕ → Result (Unit {0}) SinkError → Type 0
+abbrev pub WriteFits : ℕ → ℕ → Result Unit SinkError → Type 0
 WriteFits before now (Ok done) = ⊤
 WriteFits before now (Err faults.NoMemory) = ⊤
 WriteFits before now (Err faults.Failed) = Rose before now
 
--- want of memory comes before a fault of the sink, and that before one of the shelf
-abbrev pub exit_for : Result Stop AllocError → Result (Unit {0}) SinkError → ℕ → ℕ → Exit
-exit_for (Err e) wrote before now = exits.NoMemory
-exit_for (Ok stops.Starved) wrote before now = exits.NoMemory
-exit_for (Ok (stops.Failed b a)) (Err faults.NoMemory) before now = exits.NoMemory
-exit_for (Ok (stops.Failed b a)) (Err faults.Failed) before now = exits.Sink
-exit_for (Ok (stops.Failed b a)) (Ok done) before now = exits.Shelf (causes.Rose before now)
-exit_for (Ok (stops.Ended ending)) (Err faults.NoMemory) before now = exits.NoMemory
-exit_for (Ok (stops.Ended ending)) (Err faults.Failed) before now = exits.Sink
-exit_for (Ok (stops.Ended ending)) (Ok done) before now = exits.Done
+-- ---- which of them
 
--- of every film that the told file is
-abbrev pub ForFilm : Option Files → Option (List ℕ) → (WholeFilm → Type 0) → Type 0
-ForFilm files None P = ⊤
-ForFilm None (Some name) P = ⊤
-ForFilm (Some files) (Some name) P = (octets : List ℕ) (film : WholeFilm) → files name ≡ Some octets → film_of octets ≡ Ok film → P film
+-- where a read failed among the steps, the shelf
+abbrev pub shelf_exit : Bool → ℕ → ℕ → Exit
+shelf_exit failed before now = if failed then exits.Shelf (causes.Rose before now) else exits.Done
 
--- the readers were given their tracks' packets in the film, and no end too early
-abbrev pub LegalRun : Option Files → Option (List ℕ) → List DemuxRecord → Type 0
-LegalRun files name hd = ForFilm files name (λ film. LegalFor film hd)
+abbrev pub halt_exit : Result Unit Halt → Bool → ℕ → ℕ → Exit
+halt_exit (Ok u) failed before now = shelf_exit failed before now
+halt_exit (Err halts.JournalFull) failed before now = exits.JournalFull
+halt_exit (Err halts.NoMemory) failed before now = exits.NoMemory
 
--- where all went well each selected track was read to its end
-abbrev pub EndsRun : Option Files → Option (List ℕ) → List DemuxRecord → Exit → Type 0
-EndsRun files name hd exits.Done = ForFilm files name (λ film. EndsEach film hd)
-EndsRun files name hd _ = ⊤
+abbrev pub write_exit : Result Unit SinkError → Result Unit Halt → Bool → ℕ → ℕ → Exit
+write_exit (Ok u) halt failed before now = halt_exit halt failed before now
+write_exit (Err faults.NoMemory) halt failed before now = exits.NoMemory
+write_exit (Err faults.Failed) halt failed before now = exits.Sink
+
+abbrev pub wants_memory : Result Unit Halt → Bool
+wants_memory (Err halts.NoMemory) = true
+wants_memory _ = false
+
+-- want of memory comes before a fault of the sink, that before a full journal, and that before a fault of the shelf
+abbrev pub exit_for : List DemuxRecord → Result Unit Halt → Result Unit SinkError → ℕ → ℕ → Exit
+exit_for hd halt wrote before now =
+    if wants_memory halt then exits.NoMemory else (if list_any is_starved hd then exits.NoMemory else write_exit wrote halt (list_any is_failed hd) before now)

@@ -1,12 +1,12 @@
-//! The commands of the program. `run` takes words, a shelf of files and a sink for the text; it
-//! reads the film that the words name on demand from its start, gives the packets of its default
-//! video and audio track in file order, and writes what it gave. Its contract is the program's:
-//! `specs/Run` says how it ends and why, `specs/Reading` what its journal holds.
+//! The commands of the program. `run` takes words, a shelf of files and a sink for the text: it plays
+//! the script that the words name over the film that they name, and writes what its readers were given
+//! and what its cache did. Its contract is the program's: `specs/Asked` says what words name, `specs/Run`
+//! how a run ends and why, and what it leaves.
 #![tactic(auto)]
 
 mod command;
-mod journal;
-mod steps;
+mod opening;
+mod playing;
+mod text;
 
 pub use command::run;
-pub use journal::Stop;

@@ -5,4 +5,8 @@ pub mod Starts
 pub mod Marking
 pub mod Standing
 pub mod Calling
-pub mod Turning
+pub mod Staying
+pub mod Bringing
+pub mod Shown
+pub mod Rested
+pub mod Called

@@ -1,0 +1,73 @@
+-- What a driver would answer next, by its demuxer.
+use Rattle.std.specs.Prelude.{◌≡◌, ℕ, ◌<◌, ◌≤◌, Bool, true, false, ◌&&◌, List, reverse, Option, Some, None, Result, Ok, Err, ℤ, pos, unwrap_or, ⊤}
+use Rattle.std.specs.Option.{option_map}
+use Rattle.mc_packet.specs.declared.choice.Choice.{Choice}
+use Rattle.mc_packet.specs.declared.choice.Why.{Why}
+use Rattle.mc_packet.specs.declared.packet.Packet.{Packet}
+use Rattle.mc_tracks.specs.declared.track.Track.{Track}
+use Rattle.mc_journal.specs.Choices.{has, lead_of}
+use Rattle.mc_journal.specs.Films.{rank}
+use Rattle.mc_journal.specs.Views.{time_of}
+use Rattle.mc_cursor.specs.Standing.{plan_for}
+use Rattle.mc_demux.specs.declared.answer.DemuxError.{DemuxError}
+use Rattle.mc_demux.specs.declared.answer.Taken.{Taken}
+use Rattle.mc_demux.specs.declared.job.Job.{Job}
+use Rattle.mc_demux.specs.declared.job.Job.TheVariants.{Resume, Read}
+use Rattle.mc_demux.specs.Demuxers.{IsDemux}
+use Rattle.mc_demux.specs.Jobs.{job_of}
+use Rattle.mc_demux.specs.Readings.{peek_at, reading_of}
+use Rattle.mc_demux.specs.Selecting.{choice_of, refusal_of}
+use Rattle.mc_demux.specs.Shows.{goal_of, is_finish, is_idle_job}
+use Rattle.mc_demux.specs.State.{DemuxState, next_in}
+use Rattle.mc_script.specs.Plays.{Readings, readings}
+use Rattle.mc_lines.specs.Calls.{Ahead, Jobs}
+use Rattle.mc_world.specs.declared.brought.Brought.{Brought}
+use Rattle.mc_world.specs.declared.driver.Driver.{Driver}
+use Rattle.mc_world.specs.Driving.{Drives}
+use Rattle.mc_world.specs.Filmed.{film_for}
+use Rattle.mc_world.specs.Working.{CountsFit, Takes}
+
+-- the choice that numbers make of a list's tracks, or its refusal
+abbrev pub refused_or : Option Why → Choice → Result Choice Why
+refused_or None set = Ok set
+refused_or (Some why) set = Err why
+
+abbrev pub choice_for : List Track → List ℕ → Result Choice Why
+choice_for list numbers = refused_or (refusal_of list numbers) (choice_of list numbers)
+
+abbrev pub place_of : Packet → ℕ
+place_of p = rank p.pos
+
+-- a read of a selected track would tell its end or a failure
+abbrev pub would_tell : DemuxState → ℕ → Bool
+would_tell d track = has d.set track && is_finish (peek_at (reading_of track d))
+
+abbrev pub ahead_of : DemuxState → Ahead
+ahead_of d = record {
+  set = d.set;
+  front = λ track. option_map place_of (next_in d.set d.heads track d.cache.current);
+  tells = λ track. would_tell d track;
+  idle = is_idle_job (job_of d);
+  time = unwrap_or (time_of (lead_of d.set) (reverse d.journal)) (pos 0);
+  choice = choice_for d.list;
+  pending = option_map goal_of d.seeking;
+}
+
+abbrev pub jobs_of : DemuxState → Jobs
+jobs_of d = record { number = d.number; kept = d.kept }
+
+-- all of it stands for the film of these octets, whose readings these are
+pub record Stands (d : Driver) (octets : List ℕ) (rd : Readings) : Type 0 where
+  pub drives : Drives octets d
+  pub demux : IsDemux d.demux
+  pub readings_are : rd ≡ readings (film_for (plan_for octets d.cursor)) d.demux.cache.limits (choice_for d.demux.list)
+
+-- a job that reads a part of the film
+abbrev pub IsPartJob : Job → Type 0
+IsPartJob (Resume n mark) = ⊤
+IsPartJob (Read n) = ⊤
+IsPartJob _ = ⊥
+
+-- a job of this number was done, while the shelf's count of faults went from one to the other, and what it came to was brought
+abbrev pub Does : ℕ → ℕ → ℕ → DemuxState → Result Taken DemuxError → DemuxState → Type 0
+Does before now n old result new = (brought : Brought) × CountsFit before now brought × Takes n brought old result new

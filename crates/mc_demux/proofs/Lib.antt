@@ -49,3 +49,4 @@ pub mod Beginning
 pub mod FilmStarts
 pub mod FilmAdding
 pub mod FilmMarks
+pub mod Among

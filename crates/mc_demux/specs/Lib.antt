@@ -21,3 +21,4 @@ pub mod Wanting
 pub mod Film
 pub mod Opening
 pub mod Viewing
+pub mod Marks

@@ -19,10 +19,14 @@ use Rattle.mc_demux.specs.State.{DemuxState}
 use Rattle.mc_demux.specs.Trimming.{Trims}
 use Rattle.mc_demux.specs.Trimming.Trims.{none, more}
 
-abbrev Among : List Mark → RangeState → Type 0
+-- a range is read on from one of the marks
+abbrev pub Among : List Mark → RangeState → Type 0
 Among marks r = Contains marks r.mark
 
-further : (m : Mark) (marks : List Mark) (rs : List RangeState) → AllByRecursion (Among marks) rs → AllByRecursion (Among (m ∷ marks)) rs
+pub head_in : (m : Mark) (marks : List Mark) → Contains (m ∷ marks) m
+head_in m marks = Contains-append_left (m ∷ []) marks m (Contains-push [] m)
+
+pub further : (m : Mark) (marks : List Mark) (rs : List RangeState) → AllByRecursion (Among marks) rs → AllByRecursion (Among (m ∷ marks)) rs
 further m marks [] h = tt
 further m marks (r ∷ rs) h = (Contains-append_right (m ∷ []) marks r.mark h.0, further m marks rs h.1)
 
@@ -30,7 +34,7 @@ all_among : (rs : List RangeState) → AllByRecursion (Among (map (λ (r : Range
 all_among [] = tt
 all_among (r ∷ rs) =
     let marks = map (λ (q : RangeState). q.mark) rs in
-    (Contains-append_left (r.mark ∷ []) marks r.mark (Contains-push [] r.mark), further r.mark marks rs (all_among rs))
+    (head_in r.mark marks, further r.mark marks rs (all_among rs))
 
 -- a cache has its own marks, and so where one more is named
 pub among_self : (c : CacheState) → AreAmong (marks_of c) c
@@ -76,9 +80,11 @@ prune-among : (marks : List Mark) (heads : Heads) (m : Removal) (old new : Cache
 prune-among marks heads m old new p h = range-among marks heads old.current old.others new.current new.others p.cut p.ranges h
 
 -- each mark behind the drops is one of those before
-pub trims-among : (by : ℕ) (heads : Heads) (c₀ : CacheState) (j₀ : List DemuxRecord) (c : CacheState) (j : List DemuxRecord) → Trims by heads c₀ j₀ c j → AreAmong (marks_of c₀) c
-trims-among by heads c₀ j₀ _ _ none = among_self c₀
-trims-among by heads c₀ j₀ _ _ (more c j m c' before is p) = prune-among (marks_of c₀) heads m c c' p (trims-among by heads c₀ j₀ c j before)
+pub trims-among : (marks : List Mark) (by : ℕ) (heads : Heads) (c₀ : CacheState) (j₀ : List DemuxRecord) (c : CacheState) (j : List DemuxRecord) → Trims by heads c₀ j₀ c j
+    → AreAmong marks c₀ → AreAmong marks c
+trims-among marks by heads c₀ j₀ _ _ none a = a
+trims-among marks by heads c₀ j₀ _ _ (more c j m c' before is p) a = prune-among marks heads m c c' p (trims-among marks by heads c₀ j₀ c j before a)
 
 pub gives-among : (by : ℕ) (own : DemuxRecord) (heads : Heads) (ended : Choice) (old new : DemuxState) → Gives by own heads ended old new → AreAmong (marks_of old.cache) new.cache
-gives-among by own heads ended old new g = trims-among by heads old.cache (old.journal ++ own ∷ []) new.cache new.journal g.trims
+gives-among by own heads ended old new g =
+    trims-among (marks_of old.cache) by heads old.cache (old.journal ++ own ∷ []) new.cache new.journal g.trims (among_self old.cache)

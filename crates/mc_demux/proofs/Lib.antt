@@ -50,3 +50,4 @@ pub mod FilmStarts
 pub mod FilmAdding
 pub mod FilmMarks
 pub mod Among
+pub mod Remarked

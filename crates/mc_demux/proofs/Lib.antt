@@ -52,3 +52,5 @@ pub mod FilmMarks
 pub mod Showing
 pub mod Emptied
 pub mod Idling
+pub mod Among
+pub mod Remarked

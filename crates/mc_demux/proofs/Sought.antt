@@ -51,11 +51,11 @@ unserved_by set t dir c e = unserved_in set t dir (ranges_of c) (server set t di
 
 -- ---- the ranges, in another order
 
-all_front : (P : RangeState → Type 0) (o : Option RangeState) (rs : List RangeState) → IfSome o P → AllByRecursion P rs → AllByRecursion P (in_front o rs)
+pub all_front : (P : RangeState → Type 0) (o : Option RangeState) (rs : List RangeState) → IfSome o P → AllByRecursion P rs → AllByRecursion P (in_front o rs)
 all_front P None rs h a = a
 all_front P (Some r) rs h a = (h, a)
 
-all_left : (P : RangeState → Type 0) (o : Option RangeState) (rs : List RangeState) → AllByRecursion P (in_front o rs) → AllByRecursion P (left_with o rs)
+pub all_left : (P : RangeState → Type 0) (o : Option RangeState) (rs : List RangeState) → AllByRecursion P (in_front o rs) → AllByRecursion P (left_with o rs)
 all_left P None rs a = a
 all_left P (Some r) rs a = elim (cases_Bool (holds r)) [ inl y ↦ rw y a | inr n ↦ rw n a.1 ]
 

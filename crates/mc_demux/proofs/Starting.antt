@@ -81,7 +81,7 @@ count_taken zero rs = omega arith
 count_taken (suc n) [] = omega arith
 count_taken (suc n) (r ∷ rs) = let m = count_taken n rs in omega arith
 
-all_taken : (P : RangeState → Type 0) (n : ℕ) (rs : List RangeState) → AllByRecursion P rs → AllByRecursion P (take n rs)
+pub all_taken : (P : RangeState → Type 0) (n : ℕ) (rs : List RangeState) → AllByRecursion P rs → AllByRecursion P (take n rs)
 all_taken P zero rs a = tt
 all_taken P (suc n) [] a = tt
 all_taken P (suc n) (r ∷ rs) a = (a.0, all_taken P n rs a.1)

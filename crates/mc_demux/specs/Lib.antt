@@ -22,3 +22,4 @@ pub mod Film
 pub mod Opening
 pub mod Viewing
 pub mod Shows
+pub mod Marks

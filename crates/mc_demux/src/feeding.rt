@@ -1,5 +1,5 @@
 //! Parts of the film that are read on.
-ghost use Rattle.std.specs.Prelude.{◌≡◌, ◌≤◌, ◌+◌, true, Some, IfOk, IsSomeAnd, OnOk, OnErr};
+ghost use Rattle.std.specs.Prelude.{◌≡◌, ◌≤◌, ◌+◌, ◌∷◌, true, Some, IfOk, IsSomeAnd, OnOk, OnErr};
 ghost use Rattle.mc_packet.specs.Shape.{HasShape};
 ghost use Rattle.mc_journal.specs.Films.{Film};
 ghost use Rattle.mc_cache.specs.Cache.{count_of, mark_in, ranges_of};
@@ -8,6 +8,7 @@ ghost use Rattle.mc_demux.specs.Demuxers.{IsDemux};
 ghost use Rattle.mc_demux.specs.Feeding.{TakesPart};
 ghost use Rattle.mc_demux.specs.Film.{IsPartOf, StandsFor};
 ghost use Rattle.mc_demux.specs.Keeping.{IsAsBefore};
+ghost use Rattle.mc_demux.specs.Marks.{AreAmong, marks_of};
 ghost use Rattle.mc_demux.specs.Outcomes.{BringsPart, Feeds, PartFits, is_at};
 
 use crate::answer::{DemuxError, Taken};
@@ -83,6 +84,7 @@ impl Demux {
         requires brought { BringsPart no chunk self.old }
         ensures value { Feeds no chunk self.old result self.new }
         ensures film { (film : Film) → IsPartOf film chunk → StandsFor film self.old → StandsFor film self.new }
+        ensures marks { AreAmong (chunk.to ∷ marks_of self.old.cache) self.new.cache }
         ensures demux { IsDemux self.new }
     {
         if self.journal.len() >= FULL {

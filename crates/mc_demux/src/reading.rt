@@ -9,6 +9,7 @@ ghost use Rattle.mc_demux.specs.Demuxers.{IsDemux, IsPlaced};
 ghost use Rattle.mc_demux.specs.Readings.{Gives, IsBelow, Reads, ended_after, heads_after, mark_track, past, past_packets, peek_at, reading_of, record_of, waiting_for, with_head, with_track};
 ghost use Rattle.mc_demux.specs.Keeping.{IsRoomy};
 ghost use Rattle.mc_demux.specs.Film.{StandsFor};
+ghost use Rattle.mc_demux.specs.Marks.{AreAmong, marks_of};
 
 use crate::answer::{DemuxError, Peek, Reading};
 use crate::demux::Demux;
@@ -305,6 +306,7 @@ impl Demux {
     pub fn read(&mut self, by: u32, track: TrackNo) -> Result<Reading, DemuxError>
         ensures value { Reads by track self.old result self.new }
         ensures film { (film : Film) → StandsFor film self.old → StandsFor film self.new }
+        ensures marks { AreAmong (marks_of self.old.cache) self.new.cache }
         ensures demux { IsDemux self.new }
     {
         if self.journal.len() >= FULL {

@@ -8,6 +8,7 @@ ghost use Rattle.mc_cache.specs.Changing.{heads_in, server};
 ghost use Rattle.mc_demux.specs.Demuxers.{IsDemux};
 ghost use Rattle.mc_demux.specs.Film.{StandsFor};
 ghost use Rattle.mc_demux.specs.Keeping.{IsRoomy};
+ghost use Rattle.mc_demux.specs.Marks.{AreAmong, marks_of};
 ghost use Rattle.mc_demux.specs.Seeking.{Goes, IsRefused, Seeks, Turns, heads_or, target_after};
 
 use crate::answer::DemuxError;
@@ -112,6 +113,7 @@ impl Demux {
     pub fn seek(&mut self, by: u32, t: i64, dir: Dir) -> Result<Sought, DemuxError>
         ensures value { Seeks by t dir self.old result self.new }
         ensures film { (film : Film) → StandsFor film self.old → StandsFor film self.new }
+        ensures marks { AreAmong (marks_of self.old.cache) self.new.cache }
         ensures demux { IsDemux self.new }
     {
         if self.journal.len() >= FULL {

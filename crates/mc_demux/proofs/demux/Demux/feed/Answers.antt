@@ -1,9 +1,12 @@
-use Rattle.std.proofs.Common.{◌≡◌, rules, subst, sym}
+use Rattle.std.proofs.Common.{◌≡◌, ◌∷◌, rules, subst, sym}
 use Rattle.mc_demux.specs.State.{DemuxState}
 use Rattle.mc_demux.specs.Film.{StandsFor}
 use Rattle.mc_demux.specs.Outcomes.{PartFits}
 use Rattle.mc_demux.specs.Records.{HasRoom}
 use Rattle.mc_demux.proofs.Takings.{fed_on, feed_keeps, roomy_stands, same_kept, same_mark}
+use Rattle.mc_demux.specs.Marks.{AreAmong, marks_of}
+use Rattle.mc_demux.proofs.Among.{among_more}
+use Rattle.mc_demux.proofs.Remarked.{as_before_among, before_more, part_among}
 use Rattle.mc_demux.proofs.demux.Demux.feed.Goals as goal
 
 pub returns-in_err-make_room_to_feed-clause-film : goal.returns-in_err-make_room_to_feed-clause-film
@@ -29,3 +32,22 @@ returns-clause-film c = λ film p s.
     feed_keeps film c.args.self.now c.make_room_to_feed.new.self c.take_part.new.self c.args.chunk m c.in_ok-make_room_to_feed.ensures.demux
     (same_kept (PartFits c.args.chunk) c.args.self.now c.make_room_to_feed.new.self m b.0)
     (same_mark c.args.self.now c.make_room_to_feed.new.self c.args.chunk.from m b.1) p c.in_ok-take_part.ensures.ok s
+
+pub returns-then-len-ge-FULL-clause-marks : goal.returns-then-len-ge-FULL-clause-marks
+returns-then-len-ge-FULL-clause-marks c = among_more c.args.chunk.to c.args.self.now.cache
+
+pub returns-then-no-self-clause-marks : goal.returns-then-no-self-clause-marks
+returns-then-no-self-clause-marks c = among_more c.args.chunk.to c.args.self.now.cache
+
+pub returns-in_err-make_room_to_feed-clause-marks : goal.returns-in_err-make_room_to_feed-clause-marks
+returns-in_err-make_room_to_feed-clause-marks c = before_more c.args.chunk.to c.args.self.now c.make_room_to_feed.new.self c.in_err-make_room_to_feed.ensures.same
+
+pub returns-in_err-take_part-clause-marks : goal.returns-in_err-take_part-clause-marks
+returns-in_err-take_part-clause-marks c =
+    subst (λ (d : DemuxState). AreAmong (c.args.chunk.to ∷ marks_of c.args.self.now.cache) d.cache) (sym c.in_err-take_part.ensures.err)
+    (before_more c.args.chunk.to c.args.self.now c.make_room_to_feed.new.self c.in_ok-make_room_to_feed.ensures.same)
+
+pub returns-clause-marks : goal.returns-clause-marks
+returns-clause-marks c =
+    part_among c.args.chunk c.make_room_to_feed.new.self c.take_part.new.self (marks_of c.args.self.now.cache) c.in_ok-take_part.ensures.ok
+    (as_before_among c.args.self.now c.make_room_to_feed.new.self c.in_ok-make_room_to_feed.ensures.same)

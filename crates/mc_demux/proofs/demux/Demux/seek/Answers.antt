@@ -10,6 +10,8 @@ use Rattle.mc_demux.specs.Demuxers.{IsDemux}
 use Rattle.mc_demux.specs.Records.{HasRoom}
 use Rattle.mc_demux.specs.Seeking.{Goes}
 use Rattle.mc_demux.proofs.Turned.{goes_keeps, goes_seeks, refused_keeps, roomy_goes}
+use Rattle.mc_demux.proofs.Among.{among_same, among_self}
+use Rattle.mc_demux.proofs.Remarked.{goes_among, spare_among}
 use Rattle.mc_demux.proofs.demux.Demux.seek.Goals as goal
 
 pub returns-then-is_empty-clause-film : goal.returns-then-is_empty-clause-film
@@ -32,3 +34,20 @@ returns-clause-film c = λ film s.
     let some : is_empty c.args.self.now.set ≡ false = search rules in
     goes_keeps film c.args.self.now c.go.new.self c.args.by (to_z w64 (of_z w64 c.args.t)) c.args.dir c.go.result d some
     (roomy_goes c.args.self.now c.make_room.new.self c.go.new.self c.args.by (to_z w64 (of_z w64 c.args.t)) c.args.dir c.go.result c.in_ok-make_room.ensures.same c.go.ensures.value) s
+
+pub returns-then-len-ge-FULL-clause-marks : goal.returns-then-len-ge-FULL-clause-marks
+returns-then-len-ge-FULL-clause-marks c = among_self c.args.self.now.cache
+
+pub returns-in_err-refuse-clause-marks : goal.returns-in_err-refuse-clause-marks
+returns-in_err-refuse-clause-marks c = spare_among c.args.self.now c.refuse.new.self c.in_err-refuse.ensures.err
+
+pub returns-then-is_empty-clause-marks : goal.returns-then-is_empty-clause-marks
+returns-then-is_empty-clause-marks c = among_same c.args.self.now.cache c.refuse.new.self.cache c.in_ok-refuse.ensures.ok.cache_is
+
+pub returns-in_err-make_room-clause-marks : goal.returns-in_err-make_room-clause-marks
+returns-in_err-make_room-clause-marks c = spare_among c.args.self.now c.make_room.new.self c.in_err-make_room.ensures.same
+
+pub returns-clause-marks : goal.returns-clause-marks
+returns-clause-marks c =
+    goes_among c.args.by (to_z w64 (of_z w64 c.args.t)) c.args.dir c.go.result c.args.self.now c.go.new.self
+    (roomy_goes c.args.self.now c.make_room.new.self c.go.new.self c.args.by (to_z w64 (of_z w64 c.args.t)) c.args.dir c.go.result c.in_ok-make_room.ensures.same c.go.ensures.value)

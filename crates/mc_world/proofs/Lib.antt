@@ -6,3 +6,4 @@ pub mod Marking
 pub mod Standing
 pub mod Calling
 pub mod Turning
+pub mod Listing

@@ -1,6 +1,7 @@
 //! The driver of a player: a demuxer, and the cursor and the index that do its jobs over one file.
 #![tactic(auto)]
 
+mod beginning;
 mod brought;
 mod calls;
 mod driver;
@@ -8,6 +9,7 @@ mod law;
 mod turn;
 mod work;
 
+pub use beginning::film_lists;
 pub use brought::Brought;
 pub use driver::{Driver, DriverError, Turn};
 pub use law::{film_parts, film_starts};

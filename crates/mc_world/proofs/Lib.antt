@@ -1,3 +1,5 @@
+pub mod Listing
+pub mod Opened
 pub mod Lying
 pub mod Parting
 pub mod Chosen
@@ -6,4 +8,3 @@ pub mod Marking
 pub mod Standing
 pub mod Calling
 pub mod Turning
-pub mod Listing

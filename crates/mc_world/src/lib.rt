@@ -9,7 +9,7 @@ mod law;
 mod turn;
 mod work;
 
-pub use beginning::film_lists;
+pub use beginning::{driver_begins, film_lists, film_tracks};
 pub use brought::Brought;
 pub use driver::{Driver, DriverError, Turn};
 pub use law::{film_parts, film_starts};

@@ -1,3 +1,5 @@
+pub mod Listing
+pub mod Opened
 pub mod Lying
 pub mod Parting
 pub mod Chosen

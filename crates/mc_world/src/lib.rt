@@ -4,6 +4,7 @@
 //! `specs/Working`, and what it answers next `specs/Machines`.
 #![tactic(auto)]
 
+mod beginning;
 mod brought;
 mod driver;
 mod job;
@@ -11,6 +12,7 @@ mod law;
 mod machine;
 mod work;
 
+pub use beginning::{driver_begins, film_lists, film_tracks};
 pub use brought::Brought;
 pub use driver::Driver;
 pub use law::{film_parts, film_starts};

@@ -8,7 +8,8 @@ pub mod Marking
 pub mod Standing
 pub mod Calling
 pub mod Staying
+pub mod Called
 pub mod Bringing
 pub mod Shown
 pub mod Rested
-pub mod Called
+pub mod Ruling

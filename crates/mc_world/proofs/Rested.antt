@@ -19,6 +19,7 @@ use Rattle.mc_journal.specs.Films.{Film, at as place}
 use Rattle.mc_journal.specs.Readings.{failed, last_fault, selected}
 use Rattle.mc_journal.specs.Used.{IsFailure, IsUsed, IsWant, can_end}
 use Rattle.mc_journal.specs.Views.{next, was_ended}
+use Rattle.mc_demux.specs.declared.job.Job.{Job}
 use Rattle.mc_demux.specs.declared.job.Job.TheVariants.{Idle}
 use Rattle.mc_demux.specs.Demuxers.{IsDemux}
 use Rattle.mc_demux.specs.Film.{StandsFor}
@@ -263,7 +264,7 @@ none_is : {A : Type 0} (o : Option A) (f : A → ℕ) → option_map f o ≡ Non
 none_is None f e = refl
 none_is (Some p) f e = absurd (cc)
 
-idle_is_idle : (job : _) → is_idle_job job ≡ true → job ≡ Idle
+pub idle_is_idle : (job : Job) → is_idle_job job ≡ true → job ≡ Idle
 idle_is_idle Idle e = refl
 idle_is_idle _ e = absurd (cc)
 

@@ -7,6 +7,7 @@ ghost use Rattle.mc_demux.specs.Demuxers.{IsDemux};
 ghost use Rattle.mc_demux.specs.Film.{StandsFor};
 ghost use Rattle.mc_demux.specs.Jobs.{job_of, kept_job, read_at, read_job, start_job};
 ghost use Rattle.mc_demux.specs.Keeping.{IsRoomy};
+ghost use Rattle.mc_demux.specs.Marks.{AreAmong, marks_of};
 
 use crate::answer::DemuxError;
 use crate::demux::Demux;
@@ -117,6 +118,7 @@ impl Demux {
     pub fn next_job(&mut self) -> Result<Job, DemuxError>
         ensures value { Asks self.old result self.new }
         ensures film { (film : Film) → StandsFor film self.old → StandsFor film self.new }
+        ensures marks { AreAmong (marks_of self.old.cache) self.new.cache }
         ensures demux { IsDemux self.new }
     {
         if self.journal.len() >= FULL {

@@ -5,6 +5,7 @@ ghost use Rattle.mc_demux.specs.declared.waiting.Failure.TheVariants.{Failed, St
 ghost use Rattle.mc_demux.specs.Demuxers.{IsDemux};
 ghost use Rattle.mc_demux.specs.Outcomes.{BringsFailure, Fails, HasRisen, failed_on};
 ghost use Rattle.mc_demux.specs.Film.{StandsFor, failure_record};
+ghost use Rattle.mc_demux.specs.Marks.{AreAmong, marks_of};
 
 use crate::answer::Taken;
 use crate::demux::Demux;
@@ -34,6 +35,7 @@ impl Demux {
         requires risen { HasRisen before after }
         ensures value { Fails no (Failed before after) (FailedRecord 5 before after) self.old result self.new }
         ensures film { (film : Film) → StandsFor film self.old → StandsFor film self.new }
+        ensures marks { AreAmong (marks_of self.old.cache) self.new.cache }
         ensures demux { IsDemux self.new }
     {
         if no != self.number {
@@ -51,6 +53,7 @@ impl Demux {
         requires brought { BringsFailure no self.old }
         ensures value { Fails no Starved (StarvedRecord 5) self.old result self.new }
         ensures film { (film : Film) → StandsFor film self.old → StandsFor film self.new }
+        ensures marks { AreAmong (marks_of self.old.cache) self.new.cache }
         ensures demux { IsDemux self.new }
     {
         if no != self.number {

@@ -5,6 +5,7 @@ ghost use Rattle.mc_journal.specs.Films.{Film};
 ghost use Rattle.mc_cache.specs.Cache.{count_of, ranges_of};
 ghost use Rattle.mc_demux.specs.Demuxers.{IsDemux};
 ghost use Rattle.mc_demux.specs.Film.{StandsFor};
+ghost use Rattle.mc_demux.specs.Marks.{AreAmong, marks_of};
 ghost use Rattle.mc_demux.specs.Selecting.{Selects, Switches, added_to, knows, sought_again, told_drops, waiting_after};
 
 use crate::answer::{DemuxError, Selected};
@@ -154,6 +155,7 @@ impl Demux {
     pub fn select(&mut self, by: u32, set: &[TrackNo], at: i64) -> Result<Selected, DemuxError>
         ensures value { Selects by set.now at self.old result self.new }
         ensures film { (film : Film) → StandsFor film self.old → StandsFor film self.new }
+        ensures marks { AreAmong (marks_of self.old.cache) self.new.cache }
         ensures demux { IsDemux self.new }
     {
         if self.journal.len() >= FULL {

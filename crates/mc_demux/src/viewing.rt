@@ -7,6 +7,7 @@ ghost use Rattle.mc_journal.specs.Views.{plays, time_of, view};
 ghost use Rattle.mc_demux.specs.Demuxers.{IsDemux};
 ghost use Rattle.mc_demux.specs.Film.{StandsFor};
 ghost use Rattle.mc_demux.specs.Keeping.{IsRoomy};
+ghost use Rattle.mc_demux.specs.Marks.{AreAmong, marks_of};
 ghost use Rattle.mc_demux.specs.Viewing.{IsShown, Shows, flags_of, is_ended, play_told, status_of, tells_play, tells_time, time_told, view_of};
 
 use crate::answer::DemuxError;
@@ -155,6 +156,7 @@ impl Demux {
     pub fn show(&mut self, by: u32) -> Result<CacheView, DemuxError>
         ensures value { Shows by self.old result self.new }
         ensures film { (film : Film) → StandsFor film self.old → StandsFor film self.new }
+        ensures marks { AreAmong (marks_of self.old.cache) self.new.cache }
         ensures demux { IsDemux self.new }
     {
         if self.journal.len() >= FULL {

@@ -13,6 +13,9 @@ use Rattle.mc_demux.proofs.Known.{choice_known}
 use Rattle.mc_demux.proofs.Switched.{differ, roomy_switches, switches_to}
 use Rattle.mc_demux.proofs.Reselected.{refusal_told, switch_keeps}
 use Rattle.mc_demux.proofs.Turned.{refused_keeps}
+use Rattle.mc_demux.specs.Marks.{AreAmong, marks_of}
+use Rattle.mc_demux.proofs.Among.{among_same, among_self}
+use Rattle.mc_demux.proofs.Remarked.{spare_among, switches_among}
 use Rattle.mc_demux.proofs.demux.Demux.select.Goals as goal
 
 pub switch-requires-clause-known : goal.switch-requires-clause-known
@@ -53,3 +56,29 @@ returns-clause-film c = λ film s.
     switch_keeps film c.args.self.now c.switch.new.self c.args.by c.choice_of-chosen.result (to_z w64 (of_z w64 c.args.at)) d known
     (roomy_switches c.args.self.now c.make_room_to_change.new.self c.switch.new.self c.args.by c.choice_of-chosen.result (to_z w64 (of_z w64 c.args.at)) c.in_ok-make_room_to_change.ensures.same
     c.in_ok-switch.ensures.ok) s
+
+pub returns-then-len-ge-FULL-clause-marks : goal.returns-then-len-ge-FULL-clause-marks
+returns-then-len-ge-FULL-clause-marks c = among_self c.args.self.now.cache
+
+pub returns-in_err-refuse-clause-marks : goal.returns-in_err-refuse-clause-marks
+returns-in_err-refuse-clause-marks c = spare_among c.args.self.now c.refuse.new.self c.in_err-refuse.ensures.err
+
+pub returns-in-Some-clause-marks : goal.returns-in-Some-clause-marks
+returns-in-Some-clause-marks c = among_same c.args.self.now.cache c.refuse.new.self.cache c.in_ok-refuse.ensures.ok.cache_is
+
+pub returns-then-eq-clause-marks : goal.returns-then-eq-clause-marks
+returns-then-eq-clause-marks c = among_self c.args.self.now.cache
+
+pub returns-in_err-make_room_to_change-clause-marks : goal.returns-in_err-make_room_to_change-clause-marks
+returns-in_err-make_room_to_change-clause-marks c = spare_among c.args.self.now c.make_room_to_change.new.self c.in_err-make_room_to_change.ensures.same
+
+pub returns-in_err-switch-clause-marks : goal.returns-in_err-switch-clause-marks
+returns-in_err-switch-clause-marks c =
+    subst (λ (d : DemuxState). AreAmong (marks_of c.args.self.now.cache) d.cache) (sym c.in_err-switch.ensures.err)
+    (spare_among c.args.self.now c.make_room_to_change.new.self c.in_ok-make_room_to_change.ensures.same)
+
+pub returns-clause-marks : goal.returns-clause-marks
+returns-clause-marks c =
+    switches_among c.args.by c.choice_of-chosen.result (to_z w64 (of_z w64 c.args.at)) c.args.self.now c.switch.new.self
+    (roomy_switches c.args.self.now c.make_room_to_change.new.self c.switch.new.self c.args.by c.choice_of-chosen.result (to_z w64 (of_z w64 c.args.at)) c.in_ok-make_room_to_change.ensures.same
+    c.in_ok-switch.ensures.ok)

@@ -1,0 +1,16 @@
+use Rattle.std.proofs.Common.{ap, ◌∙◌}
+use Rattle.mc_demux.specs.State.{DemuxState}
+use Rattle.mc_demux.proofs.Among.{among_same, among_self}
+use Rattle.mc_demux.proofs.Remarked.{spare_among}
+use Rattle.mc_demux.proofs.demux.Demux.next_job.Goals as goal
+
+pub returns-then-len-ge-FULL-clause-marks : goal.returns-then-len-ge-FULL-clause-marks
+returns-then-len-ge-FULL-clause-marks c = among_self c.args.self.now.cache
+
+pub returns-in_err-make_room_for_outcome-clause-marks : goal.returns-in_err-make_room_for_outcome-clause-marks
+returns-in_err-make_room_for_outcome-clause-marks c = spare_among c.args.self.now c.make_room_for_outcome.new.self c.in_err-make_room_for_outcome.ensures.same
+
+pub returns-clause-marks : goal.returns-clause-marks
+returns-clause-marks c =
+    among_same c.args.self.now.cache c.keep.new.self.cache
+    (ap (λ (d : DemuxState). d.cache) c.keep.ensures.value ∙ ap (λ (d : DemuxState). d.cache) c.in_ok-make_room_for_outcome.ensures.same.changed)

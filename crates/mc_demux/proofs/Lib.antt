@@ -36,3 +36,5 @@ pub mod Beginning
 pub mod FilmStarts
 pub mod FilmAdding
 pub mod FilmMarks
+pub mod FilmEleventh
+pub mod FilmBegins

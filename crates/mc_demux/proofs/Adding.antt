@@ -1,5 +1,5 @@
 -- Tracks that are added to the current range.
-use Rattle.std.proofs.Common.{◌≡◌, ℕ, ◌+◌, ◌≤◌, Bool, true, false, ◌&&◌, ◌||◌, inl, inr, arith, length, ◌∷◌, ◌==◌, Option, Some, None, List, [], refl, ap, sym, subst, ◌∙◌}
+use Rattle.std.proofs.Common.{◌≡◌, ℕ, ◌≤◌, true, false, ◌&&◌, inl, inr, arith, length, ◌∷◌, ◌==◌, Option, Some, None, List, refl, ap, sym, subst, ◌∙◌}
 use Rattle.std.specs.Prelude.{is_some, IfSome, IsSomeAnd}
 use Rattle.std.specs.List.{AllByRecursion}
 use Rattle.std.proofs.lemmas.Bool.{cases_Bool, eqb-true, eq-eqb, and_parts}
@@ -18,8 +18,8 @@ use Rattle.mc_queue.specs.Queue.{QueueState, IsNew}
 use Rattle.mc_range.specs.declared.queues.Queues.{Queues}
 use Rattle.mc_range.specs.Range.{RangeState, AtMark, IsRange, count, place_at, queue_of, weight_in as queue_weight}
 use Rattle.mc_range.specs.Tracks.{IsAdded, queue_under, selected_under, with_queue}
-use Rattle.mc_cache.specs.Cache.{CacheState, IsCache, count_in, count_of, in_front, ranges_of, weight_in, weight_of}
-use Rattle.mc_cache.specs.Changing.{AddsTrack, MayAdd}
+use Rattle.mc_cache.specs.Cache.{CacheState, IsCache, in_front, ranges_of}
+use Rattle.mc_cache.specs.Changing.{AddsTrack}
 use Rattle.mc_demux.specs.Demuxers.{AreAwaited, AreQueued, HaveHeads, IsPlaced, IsSelected}
 use Rattle.mc_demux.specs.Finding.{AddsOne, AddsTracks, MayAddAll, MayAddOne}
 use Rattle.mc_demux.specs.Outcomes.{AreStartsFor, head_at, heads_at}

@@ -1,41 +1,27 @@
 -- Over the film's list the current range with added tracks is the one of the rule.
-use Rattle.std.proofs.Common.{◌≡◌, ℕ, ◌+◌, ◌≤◌, ◌<◌, ◌==◌, min, Bool, true, false, ◌&&◌, ◌||◌, ◌⊎◌, Option, Some, None, List, [], ◌∷◌, refl, ap, sym, subst, ◌∙◌, inl, inr, arith}
-use Rattle.std.specs.Prelude.{is_some, not, if◌then◌else◌, IfSome, IsSomeAnd, map, nat_lt}
-use Rattle.std.specs.List.{AllByRecursion}
-use Rattle.std.specs.Option.{option_map, option_map_or}
-use Rattle.std.proofs.lemmas.Bool.{cases_Bool, and_parts, eq-eqb, ltb-true, ltb-false, lt-ltb, le-ltb}
-use Rattle.mc_packet.specs.declared.packet.Pos.{Pos}
+use Rattle.std.proofs.Common.{◌≡◌, ℕ, true, false, Option, Some, None, List, refl, ap, sym, subst, ◌∙◌, inl, inr}
+use Rattle.std.specs.Prelude.{is_some, IfSome, map}
+use Rattle.std.specs.Option.{option_map}
+use Rattle.std.proofs.lemmas.Bool.{cases_Bool, eq-eqb}
 use Rattle.mc_packet.specs.declared.choice.Choice.{Choice}
-use Rattle.mc_packet.specs.declared.choice.Kind.{Kind}
-use Rattle.mc_packet.specs.declared.choice.Kind.TheVariants.{Video, Audio, Sub}
 use Rattle.mc_packet.specs.declared.choice.Starts.{Starts}
 use Rattle.mc_packet.specs.declared.cache.Heads.{Heads}
-use Rattle.mc_packet.specs.declared.walk.Ending.{Ending}
 use Rattle.mc_packet.specs.declared.walk.Mark.{Mark}
 use Rattle.mc_journal.specs.Told.{Told, told}
-use Rattle.mc_journal.specs.Choices.{or_else, has, is_distinct, is_empty, is_other, is_track}
-use Rattle.mc_journal.specs.Films.{first_lane, rank, track_of}
-use Rattle.mc_journal.specs.Ranges.{Range, Span, in_span}
-use Rattle.mc_journal.specs.Stands.{add_spans, empty_span, span_given, start_given}
-use Rattle.mc_queue.specs.Queue.{QueueState, IsNew}
+use Rattle.mc_journal.specs.Choices.{or_else, is_track}
+use Rattle.mc_journal.specs.Films.{first_lane, track_of}
+use Rattle.mc_journal.specs.Ranges.{in_span}
+use Rattle.mc_journal.specs.Stands.{empty_span, span_given, start_given}
+use Rattle.mc_queue.specs.Queue.{QueueState}
 use Rattle.mc_range.specs.declared.queues.Queues.{Queues}
-use Rattle.mc_range.specs.Range.{RangeState, IsRange, QueueIn, QueuesIn, as_range, own, place_at, queue_of, span_of}
+use Rattle.mc_range.specs.Range.{RangeState, IsRange, QueueIn, QueuesIn, own, queue_of, span_of}
 use Rattle.mc_range.specs.Serving.{HoldsFilm, packets_in}
-use Rattle.mc_range.specs.Tracks.{IsAdded}
 use Rattle.mc_range.proofs.Chosen.{blank_held, new_blank}
-use Rattle.mc_range.proofs.Fed.{range_is}
 use Rattle.mc_range.proofs.Places.{same_lane}
 use Rattle.mc_range.proofs.Selecting.{is_it}
-use Rattle.mc_cache.specs.Cache.{CacheState}
-use Rattle.mc_demux.specs.Film.{PlacesAre}
-use Rattle.mc_demux.specs.Finding.{AddsOne, AddsTracks}
-use Rattle.mc_demux.specs.Outcomes.{AreStartsFor, head_at, heads_at}
-use Rattle.mc_demux.specs.State.{head_of}
-use Rattle.mc_demux.proofs.Adding.{AddedIn, AllAdded, wait_off}
-use Rattle.mc_demux.proofs.Awaited.{same_selected}
-use Rattle.mc_demux.proofs.ByKind.{KindIs, KindsAre}
+use Rattle.mc_demux.specs.Outcomes.{AreStartsFor}
+use Rattle.mc_demux.proofs.Adding.{AddedIn, AllAdded}
 use Rattle.mc_demux.proofs.Placing.{own_off, set_kinds}
-
 
 -- ---- a track is of one kind, or of none
 
@@ -135,6 +121,7 @@ holds_one ps k t m w s o n qo qn a i e x y h =
   where
     some : (a b : ℕ) → Some a ≡ Some b → a ≡ b
     some a b e = cc
+
     own_track : (q : Option QueueState) → QueueIn t m q → IfSome q (λ z. z.track ≡ k)
     own_track None i = tt
     own_track (Some q) i = some q.track k (sym i.0 ∙ e)

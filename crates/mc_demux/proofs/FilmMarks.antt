@@ -1,7 +1,7 @@
 -- The mark and the ending of a range with added tracks, and the heads of a range where starts were found.
-use Rattle.std.proofs.Common.{◌≡◌, ℕ, ◌+◌, ◌≤◌, ◌<◌, min, Bool, true, false, ◌&&◌, ◌||◌, Option, Some, None, List, [], ◌∷◌, refl, ap, sym, subst, ◌∙◌, inl, inr, arith}
+use Rattle.std.proofs.Common.{◌≡◌, ℕ, min, Bool, true, false, ◌&&◌, ◌||◌, Option, Some, None, refl, ap, sym, subst, ◌∙◌, inl, inr, arith}
 use Rattle.std.specs.Prelude.{is_some, not, if◌then◌else◌, IfSome, IsSomeAnd, nat_lt}
-use Rattle.std.specs.Option.{option_map, option_map_or}
+use Rattle.std.specs.Option.{option_map_or}
 use Rattle.std.proofs.lemmas.Bool.{cases_Bool, and_parts, ltb-true, ltb-false, le-ltb}
 use Rattle.mc_packet.specs.declared.packet.Pos.{Pos}
 use Rattle.mc_packet.specs.declared.choice.Choice.{Choice}
@@ -15,7 +15,7 @@ use Rattle.mc_journal.specs.Choices.{or_else, is_distinct, is_empty, is_other}
 use Rattle.mc_journal.specs.Films.{first_lane, rank}
 use Rattle.mc_journal.specs.Stands.{add_spans, start_given}
 use Rattle.mc_queue.specs.Queue.{QueueState}
-use Rattle.mc_range.specs.Range.{RangeState, IsBegun, IsRange, StartsAt, as_range, place_at, queue_of, span_of}
+use Rattle.mc_range.specs.Range.{RangeState, IsBegun, IsRange, StartsAt, as_range, place_at, queue_of}
 use Rattle.mc_range.specs.Tracks.{IsAdded}
 use Rattle.mc_range.proofs.Fed.{range_is}
 use Rattle.mc_range.proofs.Places.{same_lane}

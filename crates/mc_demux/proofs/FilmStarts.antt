@@ -1,24 +1,21 @@
 -- Starts that are taken leave a demuxer that stands for the film: the record may come.
-use Rattle.std.proofs.Common.{◌≡◌, ℕ, ◌+◌, ◌≤◌, ◌<◌, ◌==◌, Bool, true, false, ◌&&◌, ◌||◌, Option, Some, None, List, [], ◌∷◌, ◌++◌, refl, ap, sym, subst, ◌∙◌, inl, inr, arith}
-use Rattle.std.specs.Prelude.{is_some, not, if◌then◌else◌, IfSome, IsSomeAnd, map, reverse, ℤ}
+use Rattle.std.proofs.Common.{◌≡◌, ℕ, ◌≤◌, Bool, true, false, ◌||◌, Option, Some, None, List, ◌∷◌, refl, ap, sym, subst, ◌∙◌, inl, inr}
+use Rattle.std.specs.Prelude.{is_some, not, IfSome, IsSomeAnd, map, reverse, ℤ}
 use Rattle.std.specs.List.{AllByRecursion}
-use Rattle.std.specs.Option.{option_map, option_map_or}
+use Rattle.std.specs.Option.{option_map}
 use Rattle.std.proofs.lemmas.Bool.{cases_Bool}
-use Rattle.mc_packet.specs.declared.packet.Pos.{Pos}
 use Rattle.mc_packet.specs.declared.choice.Choice.{Choice}
-use Rattle.mc_packet.specs.declared.choice.Dir.{Dir}
 use Rattle.mc_packet.specs.declared.choice.Starts.{Starts}
 use Rattle.mc_packet.specs.declared.cache.Heads.{Heads}
 use Rattle.mc_packet.specs.declared.cache.Limits.{Limits}
 use Rattle.mc_journal.specs.declared.record.DemuxRecord.{DemuxRecord}
 use Rattle.mc_journal.specs.declared.record.DemuxRecord.TheVariants.{Found}
-use Rattle.mc_journal.specs.Told.{Told}
-use Rattle.mc_journal.specs.Choices.{or_else, has, is_empty, is_track, kept_of, kept_track, meets, nothing, some_of, OnTrack}
+use Rattle.mc_journal.specs.Choices.{or_else, has, is_empty, kept_of, kept_track, meets, nothing, some_of, OnTrack}
 use Rattle.mc_journal.specs.Films.{Film, IsRegular, start_of, switch_start}
 use Rattle.mc_journal.specs.Readings.{selected, failed, pending, waits, read_from}
 use Rattle.mc_journal.specs.Stands.{stand}
 use Rattle.mc_journal.specs.Views.{head}
-use Rattle.mc_journal.specs.Allowed.{EachStart, MayFind, StartsOf, is_sought}
+use Rattle.mc_journal.specs.Allowed.{EachStart, MayFind, StartsOf}
 use Rattle.mc_journal.specs.Used.{is_still, place_of_starts}
 use Rattle.mc_range.specs.Range.{RangeState, AtMark, as_range}
 use Rattle.mc_range.specs.Serving.{HoldsFilm}

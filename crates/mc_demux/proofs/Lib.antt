@@ -54,3 +54,5 @@ pub mod Emptied
 pub mod Idling
 pub mod Among
 pub mod Remarked
+pub mod FilmEleventh
+pub mod FilmBegins

@@ -1,5 +1,5 @@
 -- A new range that begins where starts were found.
-use Rattle.std.proofs.Common.{◌≡◌, ℕ, zero, suc, ◌+◌, ◌*◌, ◌≤◌, ◌<◌, min, Bool, true, false, Option, Some, None, List, [], ◌∷◌, ◌++◌, refl, ap, sym, subst, ◌∙◌, arith, length, take, drop, length-append}
+use Rattle.std.proofs.Common.{◌≡◌, ℕ, zero, suc, ◌+◌, ◌*◌, ◌≤◌, true, false, Option, Some, None, List, [], ◌∷◌, refl, ap, sym, subst, ◌∙◌, arith, length, take, drop, length-append}
 use Rattle.std.specs.Prelude.{is_some, IfSome, IsSomeAnd}
 use Rattle.std.specs.List.{AllByRecursion}
 use Rattle.std.specs.Option.{option_map_or}
@@ -12,10 +12,10 @@ use Rattle.mc_journal.specs.declared.record.Cause.{Cause}
 use Rattle.mc_journal.specs.declared.record.Cause.TheVariants.{TooMany}
 use Rattle.mc_journal.specs.declared.record.Removal.{Removal}
 use Rattle.mc_journal.specs.Choices.{is_empty, nothing}
-use Rattle.mc_journal.specs.Used.{least_start, place_of_starts}
+use Rattle.mc_journal.specs.Used.{least_start}
 use Rattle.mc_queue.specs.Queue.{QueueState}
 use Rattle.mc_range.specs.Range.{RangeState, AtMark, IsBegun, IsRange, StartsAt, count}
-use Rattle.mc_cache.specs.Cache.{CacheState, IsCache, IsOther, count_in, count_of, in_front, left_with, ranges_of, weight_in, weight_of}
+use Rattle.mc_cache.specs.Cache.{CacheState, IsCache, count_in, count_of, in_front, left_with, ranges_of, weight_of}
 use Rattle.mc_cache.specs.Changing.{IsStarted}
 use Rattle.mc_cache.specs.Removals.{removals_of, removals_of_all}
 use Rattle.mc_cache.proofs.Started.{begun_light}

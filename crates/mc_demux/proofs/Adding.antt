@@ -1,5 +1,5 @@
 -- Tracks that are added to the current range.
-use Rattle.std.proofs.Common.{◌≡◌, ℕ, ◌+◌, ◌≤◌, Bool, true, false, ◌&&◌, ◌||◌, inl, inr, arith, length, ◌∷◌, ◌==◌, Option, Some, None, List, [], refl, ap, sym, subst, ◌∙◌}
+use Rattle.std.proofs.Common.{◌≡◌, ℕ, ◌≤◌, true, false, ◌&&◌, inl, inr, arith, length, ◌∷◌, ◌==◌, Option, Some, None, List, refl, ap, sym, subst, ◌∙◌}
 use Rattle.std.specs.Prelude.{is_some, IfSome, IsSomeAnd}
 use Rattle.std.specs.List.{AllByRecursion}
 use Rattle.std.proofs.lemmas.Bool.{cases_Bool, eqb-true, eq-eqb, and_parts}
@@ -18,8 +18,8 @@ use Rattle.mc_queue.specs.Queue.{QueueState, IsNew}
 use Rattle.mc_range.specs.declared.queues.Queues.{Queues}
 use Rattle.mc_range.specs.Range.{RangeState, AtMark, IsRange, count, place_at, queue_of, weight_in as queue_weight}
 use Rattle.mc_range.specs.Tracks.{IsAdded, queue_under, selected_under, with_queue}
-use Rattle.mc_cache.specs.Cache.{CacheState, IsCache, count_in, count_of, in_front, ranges_of, weight_in, weight_of}
-use Rattle.mc_cache.specs.Changing.{AddsTrack, MayAdd}
+use Rattle.mc_cache.specs.Cache.{CacheState, IsCache, in_front, ranges_of}
+use Rattle.mc_cache.specs.Changing.{AddsTrack}
 use Rattle.mc_demux.specs.Demuxers.{AreAwaited, AreQueued, HaveHeads, IsPlaced, IsSelected}
 use Rattle.mc_demux.specs.Finding.{AddsOne, AddsTracks, MayAddAll, MayAddOne}
 use Rattle.mc_demux.specs.Outcomes.{AreStartsFor, head_at, heads_at}
@@ -156,7 +156,7 @@ pub record CurrentAdded (added : Choice) (starts : Starts) (r : RangeState) (old
   pub others_is : new.others ≡ old.others
   pub limits_are : new.limits ≡ old.limits
 
-there : (P : RangeState → Type 0) (o : Option RangeState) → IsSomeAnd o P → (r : RangeState) × (o ≡ Some r) × P r
+pub there : (P : RangeState → Type 0) (o : Option RangeState) → IsSomeAnd o P → (r : RangeState) × (o ≡ Some r) × P r
 there P None h = absurd h
 there P (Some r) h = (r, refl, h)
 
@@ -222,7 +222,7 @@ add_there t None (Some s) o n hd a e f = absurd (cc)
 add_there t (Some x) None o n hd a e f = absurd (cc)
 add_there t (Some x) (Some s) o n hd a e f = λ k g. (some_is (λ q. IsNew x (place_at s) q) n a, refl)
 
-wait_off : (a b w : Option ℕ) (k : ℕ) → is_other a b ≡ true → a ≡ Some k → IsSelected b w → is_track w k ≡ false
+pub wait_off : (a b w : Option ℕ) (k : ℕ) → is_other a b ≡ true → a ≡ Some k → IsSelected b w → is_track w k ≡ false
 wait_off a b None k o e s = refl
 wait_off a b (Some m) k o e s = elim (cases_Bool (m == k)) [
   | inl y ↦

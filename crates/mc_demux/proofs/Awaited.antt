@@ -1,6 +1,5 @@
 -- The tracks that wait are selected, and no other range stands beside the current one then.
-use Rattle.std.proofs.Common.{◌≡◌, ℕ, Bool, true, false, Option, Some, None, List, [], refl, inl, inr}
-use Rattle.std.specs.Prelude.{IfSome}
+use Rattle.std.proofs.Common.{◌≡◌, ℕ, Bool, Option, Some, None, List, [], refl, inl, inr}
 use Rattle.std.proofs.lemmas.Bool.{cases_Bool}
 use Rattle.mc_packet.specs.declared.choice.Choice.{Choice}
 use Rattle.mc_journal.specs.Choices.{kept_of, kept_track, nothing}
@@ -11,7 +10,7 @@ use Rattle.mc_demux.specs.Demuxers.{AreAwaited, IsSelected}
 pub none_await : (set : Choice) (others : List RangeState) → AreAwaited set nothing others
 none_await set others = record { video = tt; audio = tt; sub = tt; alone = λ e. absurd (cc) }
 
-same_selected : (o : Option ℕ) → IsSelected o o
+pub same_selected : (o : Option ℕ) → IsSelected o o
 same_selected None = tt
 same_selected (Some k) = refl
 

@@ -1,7 +1,6 @@
 -- Starts that are taken leave a demuxer.
-use Rattle.std.proofs.Common.{◌≡◌, ℕ, ◌+◌, ◌≤◌, ◌<◌, Bool, true, false, Option, Some, None, List, [], ◌∷◌, ◌++◌, refl, ap, sym, subst, ◌∙◌, arith, length, length-append}
+use Rattle.std.proofs.Common.{◌≡◌, ℕ, ◌+◌, ◌≤◌, true, false, Option, Some, None, List, [], ◌∷◌, ◌++◌, refl, ap, sym, subst, ◌∙◌, arith, length-append}
 use Rattle.std.specs.Prelude.{is_some, IfNone, IfSome, IsSomeAnd}
-use Rattle.std.specs.List.{AllByRecursion, list_any}
 use Rattle.mc_packet.specs.declared.choice.Choice.{Choice}
 use Rattle.mc_packet.specs.declared.choice.Starts.{Starts}
 use Rattle.mc_packet.specs.declared.cache.Heads.{Heads}
@@ -10,21 +9,21 @@ use Rattle.mc_journal.specs.declared.record.DemuxRecord.{DemuxRecord}
 use Rattle.mc_journal.specs.declared.record.DemuxRecord.TheVariants.{Found}
 use Rattle.mc_journal.specs.Choices.{is_empty, nothing}
 use Rattle.mc_range.specs.Range.{RangeState, IsRange}
-use Rattle.mc_cache.specs.Cache.{CacheState, IsCache, count_of, mark_in, ranges_of, weight_of}
+use Rattle.mc_cache.specs.Cache.{CacheState, IsCache, mark_in, ranges_of, weight_of}
 use Rattle.mc_cache.specs.Changing.{IsSameButRoom}
 use Rattle.mc_cache.specs.Pruning.{back_of}
 use Rattle.mc_cache.specs.Rooms.{HasRoomToJoin, IsPrepared, MayTake}
 use Rattle.mc_demux.specs.declared.waiting.Target.{Target}
 use Rattle.mc_demux.specs.State.{DemuxState}
-use Rattle.mc_demux.specs.Demuxers.{AreAwaited, AreLimits, AreQueued, HaveHeads, IsDemux, IsPlaced, heaviest}
+use Rattle.mc_demux.specs.Demuxers.{AreLimits, AreQueued, HaveHeads, IsDemux, IsPlaced, heaviest}
 use Rattle.mc_demux.specs.Finding.{AddsTracks, Begins, BeginsBy, BeginsRange, IsReadyToBegin, MayAddAll, TakesStarts}
 use Rattle.mc_demux.specs.Outcomes.{AreStartsFor, StartsFit, heads_at}
-use Rattle.mc_demux.specs.Settling.{Settles, with_drops}
+use Rattle.mc_demux.specs.Settling.{Settles}
 use Rattle.mc_demux.proofs.Adding.{add_begins, may_add, tracks_added}
 use Rattle.mc_demux.proofs.Awaited.{none_await}
 use Rattle.mc_demux.proofs.Resting.{own_set}
 use Rattle.mc_demux.proofs.Roomy.{roomy_is}
-use Rattle.mc_demux.proofs.Settled.{WritesExtras, drops_extras, extras_both, longer, settled}
+use Rattle.mc_demux.proofs.Settled.{WritesExtras, drops_extras, longer, settled}
 use Rattle.mc_demux.proofs.Starting.{AreAtMark, HasBegun, StartsAwaited, at_mark, start_begins, starts_awaited}
 
 -- ---- whether a range is current
@@ -91,15 +90,15 @@ placed_some set heads waiting o c r p e f =
     subst (λ (x : Option RangeState). IsPlaced set heads waiting None x) f (subst (λ (x : Option Target). IsPlaced set heads waiting x c) e p)
 
 -- where a range is current, and starts come for the tracks that wait
-record IsAdding (d : DemuxState) (starts : Starts) (r : RangeState) : Type 0 where
-  range : IsRange r
-  own : r.set ≡ d.set
-  queued : AreQueued d.set d.waiting r
-  heads : HaveHeads d.set d.heads r
-  fit : AreStartsFor d.waiting starts
-  some : is_empty d.waiting ≡ false
+pub record IsAdding (d : DemuxState) (starts : Starts) (r : RangeState) : Type 0 where
+  pub range : IsRange r
+  pub own : r.set ≡ d.set
+  pub queued : AreQueued d.set d.waiting r
+  pub heads : HaveHeads d.set d.heads r
+  pub fit : AreStartsFor d.waiting starts
+  pub some : is_empty d.waiting ≡ false
 
-is_adding : (d : DemuxState) (starts : Starts) (r : RangeState) → IsDemux d → IsSomeAnd d.kept (StartsFit starts) → d.cache.current ≡ Some r → IsAdding d starts r
+pub is_adding : (d : DemuxState) (starts : Starts) (r : RangeState) → IsDemux d → IsSomeAnd d.kept (StartsFit starts) → d.cache.current ≡ Some r → IsAdding d starts r
 is_adding d starts r i k e =
     let w = (starts_awaited d starts i k).of_waiting (ap (λ (o : Option RangeState). is_some o) e) in
     let p = placed_some d.set d.heads d.waiting d.seeking d.cache.current r i.placed w.2 e in

@@ -165,7 +165,7 @@ current_holds : (ps : List Told) (set : Choice) (o : Option RangeState) → IfSo
 current_holds ps set None h e = tt
 current_holds ps set (Some r) h e = record { film = h; set_is = e }
 
-current_film : (ps : List Told) (set : Choice) (o : Option RangeState) → IfSome o (HoldsIn ps set) → IfSome o (HoldsFilm ps)
+pub current_film : (ps : List Told) (set : Choice) (o : Option RangeState) → IfSome o (HoldsIn ps set) → IfSome o (HoldsFilm ps)
 current_film ps set None h = tt
 current_film ps set (Some r) h = h.film
 

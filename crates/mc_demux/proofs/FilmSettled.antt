@@ -37,7 +37,7 @@ now_begun : (h : List DemuxRecord) → joins_now h ≡ true → is_begun h ≡ t
 now_begun [] e = absurd (cc)
 now_begun (r ∷ h) e = refl
 
-now_calm : (h : List DemuxRecord) → joins_now h ≡ true → follows h ≡ false
+pub now_calm : (h : List DemuxRecord) → joins_now h ≡ true → follows h ≡ false
 now_calm [] e = refl
 now_calm (Switched by set added t ∷ h) e = absurd (cc)
 now_calm (Opened by set ∷ h) e = refl

@@ -46,3 +46,8 @@ pub mod Adding
 pub mod Placing
 pub mod Starting
 pub mod Beginning
+pub mod FilmStarts
+pub mod FilmAdding
+pub mod FilmMarks
+pub mod FilmEleventh
+pub mod FilmBegins

@@ -1,5 +1,5 @@
 -- A new range that begins where starts were found.
-use Rattle.std.proofs.Common.{◌≡◌, ℕ, zero, suc, ◌+◌, ◌*◌, ◌≤◌, ◌<◌, min, Bool, true, false, Option, Some, None, List, [], ◌∷◌, ◌++◌, refl, ap, sym, subst, ◌∙◌, arith, length, take, drop, length-append}
+use Rattle.std.proofs.Common.{◌≡◌, ℕ, zero, suc, ◌+◌, ◌*◌, ◌≤◌, true, false, Option, Some, None, List, [], ◌∷◌, refl, ap, sym, subst, ◌∙◌, arith, length, take, drop, length-append}
 use Rattle.std.specs.Prelude.{is_some, IfSome, IsSomeAnd}
 use Rattle.std.specs.List.{AllByRecursion}
 use Rattle.std.specs.Option.{option_map_or}
@@ -12,10 +12,10 @@ use Rattle.mc_journal.specs.declared.record.Cause.{Cause}
 use Rattle.mc_journal.specs.declared.record.Cause.TheVariants.{TooMany}
 use Rattle.mc_journal.specs.declared.record.Removal.{Removal}
 use Rattle.mc_journal.specs.Choices.{is_empty, nothing}
-use Rattle.mc_journal.specs.Used.{least_start, place_of_starts}
+use Rattle.mc_journal.specs.Used.{least_start}
 use Rattle.mc_queue.specs.Queue.{QueueState}
 use Rattle.mc_range.specs.Range.{RangeState, AtMark, IsBegun, IsRange, StartsAt, count}
-use Rattle.mc_cache.specs.Cache.{CacheState, IsCache, IsOther, count_in, count_of, in_front, left_with, ranges_of, weight_in, weight_of}
+use Rattle.mc_cache.specs.Cache.{CacheState, IsCache, count_in, count_of, in_front, left_with, ranges_of, weight_of}
 use Rattle.mc_cache.specs.Changing.{IsStarted}
 use Rattle.mc_cache.specs.Removals.{removals_of, removals_of_all}
 use Rattle.mc_cache.proofs.Started.{begun_light}
@@ -102,7 +102,7 @@ all_wait set heads waiting (Some s) c p e n = absurd (let f : is_empty waiting �
 all_wait set heads waiting None None p e n = p
 all_wait set heads waiting None (Some r) p e n = absurd (cc)
 
-no_seek : (set : Choice) (heads : Heads) (waiting : Choice) (o : Option Target) (c : Option RangeState) → IsPlaced set heads waiting o c → is_empty waiting ≡ false → o ≡ None
+pub no_seek : (set : Choice) (heads : Heads) (waiting : Choice) (o : Option Target) (c : Option RangeState) → IsPlaced set heads waiting o c → is_empty waiting ≡ false → o ≡ None
 no_seek set heads waiting (Some s) c p n = absurd (let f : is_empty waiting ≡ true = ap (λ (w : Choice). is_empty w) p.1 in cc)
 no_seek set heads waiting None c p n = refl
 

@@ -1,13 +1,13 @@
 -- What the outcome of a job rests on once room was made for it, and what is said of it then.
-use Rattle.std.proofs.Common.{◌≡◌, ℕ, ◌+◌, Option, Some, None, List, [], ◌∷◌, ◌++◌, refl, ap, sym, subst, ◌∙◌, append_assoc, arith}
-use Rattle.std.specs.Prelude.{IsSomeAnd, reverse}
+use Rattle.std.proofs.Common.{◌≡◌, ℕ, false, ◌+◌, Option, Some, None, List, [], ◌∷◌, ◌++◌, refl, ap, sym, subst, ◌∙◌, append_assoc, arith}
+use Rattle.std.specs.Prelude.{IfSome, IsSomeAnd, reverse}
 use Rattle.mc_packet.specs.declared.packet.Packet.{Packet}
 use Rattle.mc_packet.specs.declared.cache.Limits.{Limits}
 use Rattle.mc_packet.specs.declared.walk.Chunk.{Chunk}
 use Rattle.mc_packet.specs.declared.walk.Mark.{Mark}
 use Rattle.mc_journal.specs.declared.record.DemuxRecord.{DemuxRecord}
-use Rattle.mc_journal.specs.declared.record.DemuxRecord.TheVariants.{Fed}
-use Rattle.mc_journal.specs.Choices.{or_else}
+use Rattle.mc_journal.specs.declared.record.DemuxRecord.TheVariants.{Fed, Found}
+use Rattle.mc_journal.specs.Choices.{or_else, nothing}
 use Rattle.mc_journal.specs.Films.{Film}
 use Rattle.mc_queue.specs.Queue.{QueueState}
 use Rattle.mc_range.specs.Range.{RangeState, Roomier}
@@ -17,15 +17,20 @@ use Rattle.mc_cache.specs.Changing.{IsSameButRoom, RoomierIn}
 use Rattle.mc_demux.specs.declared.job.Job.{Job}
 use Rattle.mc_demux.specs.State.{DemuxState}
 use Rattle.mc_demux.specs.Demuxers.{IsDemux}
-use Rattle.mc_demux.specs.Film.{Fits, IsPartOf, StandsFor}
+use Rattle.mc_demux.specs.Film.{AreStartsOf, Fits, IsPartOf, StandsFor}
 use Rattle.mc_demux.specs.Feeding.{TakesPart}
+use Rattle.mc_demux.specs.Finding.{TakesStarts}
 use Rattle.mc_demux.specs.Keeping.{IsAsBefore, IsRoomy}
-use Rattle.mc_demux.specs.Outcomes.{FedOn, PartFits, is_at, took_in}
+use Rattle.mc_demux.specs.Outcomes.{FedOn, FoundOn, PartFits, StartsFit, heads_at, is_at, took_in}
 use Rattle.mc_demux.specs.Records.{WroteAll}
 use Rattle.mc_demux.proofs.FilmParts.{part_keeps}
 use Rattle.mc_demux.proofs.FilmRoomy.{roomy_fits}
 use Rattle.mc_demux.proofs.Roomy.{mark_roomier}
-use Rattle.mc_demux.proofs.Settled.{WritesExtras, settled}
+use Rattle.mc_demux.proofs.Settled.{WritesExtras, extras_both, settled}
+use Rattle.mc_demux.proofs.Beginning.{begun}
+use Rattle.mc_demux.proofs.FilmBegins.{starts_keep}
+use Rattle.mc_cache.proofs.Spare.{roomier_on}
+use Rattle.mc_packet.specs.declared.choice.Starts.{Starts}
 
 -- ---- more room
 
@@ -100,3 +105,63 @@ fed_on old mid new chunk m t =
 pub feed_keeps : (film : Film) (old mid new : DemuxState) (chunk : Chunk) → IsAsBefore old mid → IsDemux mid → IsSomeAnd mid.kept (PartFits chunk) → mark_in mid.cache.current ≡ Some chunk.from
     → IsPartOf film chunk → TakesPart chunk mid new → StandsFor film old → StandsFor film new
 feed_keeps film old mid new chunk m i k e part t s = part_keeps film mid new chunk i k e part t (roomy_stands film old mid m s)
+
+-- ---- starts that were taken
+
+both_in : (a b c : Option RangeState) → RoomierIn a b → RoomierIn b c → RoomierIn a c
+both_in None b c x y = subst (λ (o : Option RangeState). RoomierIn o c) x y
+both_in (Some a) None c x y = absurd x
+both_in (Some a) (Some b) None x y = absurd y
+both_in (Some a) (Some b) (Some c) x y = roomier_on a b c x y
+
+pub before_both : (old mid new : DemuxState) → IsAsBefore old mid → IsAsBefore mid new → IsAsBefore old new
+before_both old mid new a b =
+    let one = a.roomier in
+    let two = b.roomier in
+    let x = a.cache_is in
+    let y = b.cache_is in
+    let xp = x.places in
+    let yp = y.places in
+    let xs = x.start_room in
+    let ys = y.start_room in
+    let xj = x.join_room in
+    let yj = y.join_room in
+    record {
+      changed = b.changed ∙ ap (λ (d : DemuxState). let z : DemuxState = record d { cache = new.cache; spare = new.spare } in z) a.changed;
+      cache_is = record {
+        limits_is = y.limits_is ∙ x.limits_is;
+        current = both_in old.cache.current mid.cache.current new.cache.current x.current y.current;
+        others_is = y.others_is ∙ x.others_is;
+        places = omega arith;
+        start_room = omega arith;
+        join_room = omega arith;
+      };
+      roomier = omega arith;
+    }
+
+pub found_on : (old mid new : DemuxState) (starts : Starts) → IsAsBefore old mid → IsDemux mid → IsSomeAnd mid.kept (StartsFit starts) → TakesStarts starts mid new → FoundOn starts old new
+found_on old mid new starts m i k t =
+    let g = begun mid starts t.begun t.journal i k t.is_cache t.begins in
+    let d = settled 5 mid.set (heads_at starts mid.heads) nothing None t.begun t.journal new.cache new.journal t.is_cache t.settles in
+    let w = wrote_all 5 (Found 5 starts) mid.journal new.journal (extras_both 5 (mid.journal ++ Found 5 starts ∷ []) t.journal new.journal g.wrote d.wrote) in
+    let journal : mid.journal ≡ old.journal = ap (λ (x : DemuxState). x.journal) m.changed in
+    record {
+      changed = t.changed ∙ ap (λ (x : DemuxState). let y : DemuxState = record x {
+        cache = new.cache;
+        heads = heads_at starts x.heads;
+        seeking = None;
+        waiting = nothing;
+        number = x.number + 1;
+        kept = None;
+        fed = false;
+        journal = new.journal;
+        spare = new.spare;
+      } in y) m.changed;
+      limits_are = d.limits_are ∙ g.has.limits_are ∙ m.cache_is.limits_is;
+      wrote = subst (λ (j : List DemuxRecord). WroteAll 5 (Found 5 starts ∷ []) j new.journal) journal w;
+    }
+
+pub find_keeps : (film : Film) (old mid new : DemuxState) (starts : Starts) → IsAsBefore old mid → IsDemux mid → IsSomeAnd mid.kept (StartsFit starts) → IfSome old.kept (AreStartsOf film starts)
+    → TakesStarts starts mid new → StandsFor film old → StandsFor film new
+find_keeps film old mid new starts m i k are t s =
+    starts_keep film mid new starts i k (subst (λ (d : DemuxState). IfSome d.kept (AreStartsOf film starts)) (sym m.changed) are) t (roomy_stands film old mid m s)

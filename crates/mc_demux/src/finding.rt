@@ -177,4 +177,33 @@ impl Demux {
         self.fed = false;
         Ok(())
     }
+
+    /// Takes the starts that the job of this number found. After a seek a new range begins there, and
+    /// the one that was current stands in front of the others; after a selection the current range is
+    /// read on for the tracks that wait, from their starts. The heads of these tracks are at their
+    /// starts then, nothing waits, and the current range is joined with each other that it touches. Of
+    /// ranges beside it ten can't stand: the last one goes. Packets behind the readers are dropped, as
+    /// long as there are more octets of them than the limit. All of it is recorded, and the next job
+    /// bears the next number. `Stale` exactly where the number is not the present one: then nothing
+    /// changes. Refused with `JournalFull` exactly where the journal has 16,000,000 records, and with
+    /// `NoMemory`; nothing changes then but room, and the job is kept still.
+    pub fn found(&mut self, no: u64, starts: Starts) -> Result<Taken, DemuxError>
+        requires brought { BringsStarts no starts self.old }
+        ensures value { Finds no starts self.old result self.new }
+        ensures film { (film : Film) → (no ≡ self.old.number → IfSome self.old.kept (AreStartsOf film starts)) → StandsFor film self.old → StandsFor film self.new }
+        ensures demux { IsDemux self.new }
+    {
+        if self.journal.len() >= FULL {
+            return Err(DemuxError::JournalFull);
+        }
+        if no != self.number {
+            return Ok(Taken::Stale {
+                asked: no,
+                now: self.number,
+            });
+        }
+        self.make_room_to_find(&starts)?;
+        self.take_starts(&starts)?;
+        Ok(Taken::Taken)
+    }
 }

@@ -257,11 +257,7 @@ fn least(a: Option<u64>, b: Option<u64>) -> Option<u64>
     match (a, b) {
         (None, b) => b,
         (Some(a), None) => Some(a),
-        (Some(a), Some(b)) => if b <= a {
-            Some(b)
-        } else {
-            Some(a)
-        },
+        (Some(a), Some(b)) => if b <= a { Some(b) } else { Some(a) },
     }
 }
 
@@ -415,7 +411,10 @@ fn told(demux: &Demux, back: usize) -> Done {
         return ("none", 0);
     }
     match &journal[journal.len() - 1 - back] {
-        DemuxRecord::Sought { how: Sought::Sent, .. } => ("sent", 0),
+        DemuxRecord::Sought {
+            how: Sought::Sent,
+            ..
+        } => ("sent", 0),
         DemuxRecord::Switched { .. } => ("switched", 0),
         DemuxRecord::Dropped { drop, .. } => ("drop", drop.to.block),
         DemuxRecord::Joined { .. } => ("join", 0),
@@ -616,7 +615,14 @@ const CASES: [Case; 8] = [
     (60_000, 60_000, &ONE, &SENDS_A_SEEK_AGAIN),
 ];
 
-fn plays(rt: &impl Abort, alloc: Global, case: usize, demux: &mut Demux, film: &[Row], steps: &[Step]) -> Result<(), DemuxError> {
+fn plays(
+    rt: &impl Abort,
+    alloc: Global,
+    case: usize,
+    demux: &mut Demux,
+    film: &[Row],
+    steps: &[Step],
+) -> Result<(), DemuxError> {
     for (i, (done, what, number)) in steps.iter().enumerate() {
         let answer = repeated(alloc, demux, film, *done)?;
         assert_eq!(rt; answer.0, *what, "{case} {i}");

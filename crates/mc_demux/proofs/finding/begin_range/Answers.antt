@@ -1,4 +1,4 @@
-use Rattle.std.proofs.Common.{◌≤◌, arith, length}
+use Rattle.std.proofs.Common.{arith}
 use Rattle.mc_demux.proofs.Starting.{few_drops}
 use Rattle.mc_demux.proofs.finding.begin_range.Goals as goal
 

@@ -1,4 +1,4 @@
-use Rattle.std.proofs.Common.{◌≤◌, arith}
+use Rattle.std.proofs.Common.{arith}
 use Rattle.mc_demux.proofs.Roomy.{roomy_is}
 use Rattle.mc_demux.proofs.demux.Demux.make_room_to_find.Goals as goal
 

@@ -1,5 +1,5 @@
-use Rattle.std.proofs.Common.{◌≡◌, ℕ, ◌+◌, ◌-◌, ◌≤◌, List, ap, arith, rules, subst, sym, length, vec_len}
-use Rattle.std.specs.Prelude.{vec_capacity, IsSomeAnd}
+use Rattle.std.proofs.Common.{◌≡◌, ◌+◌, ◌≤◌, List, ap, arith, rules, subst, sym, length, vec_len}
+use Rattle.std.specs.Prelude.{IsSomeAnd}
 use Rattle.mc_journal.specs.declared.record.DemuxRecord.{DemuxRecord}
 use Rattle.mc_cache.specs.Cache.{count_of, ranges_of}
 use Rattle.mc_demux.specs.State.{DemuxState}

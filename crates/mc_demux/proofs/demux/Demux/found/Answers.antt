@@ -1,0 +1,37 @@
+use Rattle.std.proofs.Common.{◌≡◌, rules}
+use Rattle.mc_demux.specs.Keeping.{IsAsBefore}
+use Rattle.mc_demux.specs.Outcomes.{StartsFit}
+use Rattle.mc_demux.specs.Records.{HasRoom}
+use Rattle.mc_demux.proofs.Takings.{before_both, find_keeps, found_on, roomy_stands, same_kept}
+use Rattle.mc_demux.proofs.demux.Demux.found.Goals as goal
+
+pub returns-clause-value : goal.returns-clause-value
+returns-clause-value c =
+    let room : HasRoom c.args.self.now.journal = search rules in
+    let same : c.args.no ≡ c.args.self.now.number = search rules in
+    let m = c.in_ok-make_room_to_find.ensures.same in
+    let kept = same_kept (StartsFit c.args.starts) c.args.self.now c.make_room_to_find.new.self m (c.requires.brought same) in
+    (room, same, found_on c.args.self.now c.make_room_to_find.new.self c.take_starts.new.self c.args.starts m c.in_ok-make_room_to_find.ensures.demux kept c.in_ok-take_starts.ensures.ok)
+
+pub returns-clause-film : goal.returns-clause-film
+returns-clause-film c = λ film p s.
+    let same : c.args.no ≡ c.args.self.now.number = search rules in
+    let m = c.in_ok-make_room_to_find.ensures.same in
+    let kept = same_kept (StartsFit c.args.starts) c.args.self.now c.make_room_to_find.new.self m (c.requires.brought same) in
+    find_keeps film c.args.self.now c.make_room_to_find.new.self c.take_starts.new.self c.args.starts m c.in_ok-make_room_to_find.ensures.demux kept (p same) c.in_ok-take_starts.ensures.ok s
+
+pub returns-in_err-make_room_to_find-clause-film : goal.returns-in_err-make_room_to_find-clause-film
+returns-in_err-make_room_to_find-clause-film c = λ film p s.
+    roomy_stands film c.args.self.now c.make_room_to_find.new.self c.in_err-make_room_to_find.ensures.same s
+
+pub returns-in_err-take_starts-clause-film : goal.returns-in_err-take_starts-clause-film
+returns-in_err-take_starts-clause-film c = λ film p s.
+    roomy_stands film c.args.self.now c.take_starts.new.self
+    (before_both c.args.self.now c.make_room_to_find.new.self c.take_starts.new.self c.in_ok-make_room_to_find.ensures.same c.in_err-take_starts.ensures.err) s
+
+pub returns-in_err-take_starts-clause-value : goal.returns-in_err-take_starts-clause-value
+returns-in_err-take_starts-clause-value c =
+    let room : HasRoom c.args.self.now.journal = search rules in
+    let b : IsAsBefore c.args.self.now c.take_starts.new.self =
+    before_both c.args.self.now c.make_room_to_find.new.self c.take_starts.new.self c.in_ok-make_room_to_find.ensures.same c.in_err-take_starts.ensures.err in
+    search rules

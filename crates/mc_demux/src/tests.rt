@@ -322,6 +322,7 @@ type Done = (&'static str, u64);
 // What is done, and what is to be answered.
 type Step = (Act, &'static str, u64);
 
+#[tactic(auto, using(crate::proofs::Shapes::resume_fits, crate::proofs::Shapes::read_fits))]
 fn work(alloc: Global, demux: &mut Demux, film: &[Row]) -> Result<Done, DemuxError> {
     match demux.next_job()? {
         Job::Resume { no, mark } => {
@@ -342,6 +343,7 @@ fn work(alloc: Global, demux: &mut Demux, film: &[Row]) -> Result<Done, DemuxErr
     }
 }
 
+#[tactic(auto, using(crate::proofs::Shapes::starts_fit))]
 fn find(demux: &mut Demux, video: u16, audio: u16) -> Result<Done, DemuxError> {
     match demux.next_job()? {
         Job::SeekTo { no, set, .. } => {

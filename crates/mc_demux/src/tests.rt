@@ -1,4 +1,5 @@
-ghost use Rattle.std.specs.Prelude.{◌≡◌, ◌<◌, ◌≤◌, [], ◌∷◌, true, length, min, option_map, option_map_or, is_some, IfOk, IsTrue};
+ghost use Rattle.std.specs.Prelude.{◌≡◌, ◌<◌, ◌≤◌, [], ◌∷◌, true, length, min, is_some, IfOk, IsTrue};
+ghost use Rattle.std.specs.Option.{option_map_or};
 ghost use Rattle.mc_packet.specs.Shape.{HasShape, is_near};
 ghost use Rattle.mc_journal.specs.Choices.{is_known, is_other, is_distinct, passes};
 ghost use Rattle.mc_journal.specs.Used.{least_start, place_of_starts};
@@ -256,11 +257,7 @@ fn least(a: Option<u64>, b: Option<u64>) -> Option<u64>
     match (a, b) {
         (None, b) => b,
         (Some(a), None) => Some(a),
-        (Some(a), Some(b)) => if b <= a {
-            Some(b)
-        } else {
-            Some(a)
-        },
+        (Some(a), Some(b)) => if b <= a { Some(b) } else { Some(a) },
     }
 }
 
@@ -322,6 +319,10 @@ enum Act {
 // What was answered, with the one number that tells most of it.
 type Done = (&'static str, u64);
 
+// What is done, and what is to be answered.
+type Step = (Act, &'static str, u64);
+
+#[tactic(auto, using(crate::proofs::Shapes::resume_fits, crate::proofs::Shapes::read_fits))]
 fn work(alloc: Global, demux: &mut Demux, film: &[Row]) -> Result<Done, DemuxError> {
     match demux.next_job()? {
         Job::Resume { no, mark } => {
@@ -342,6 +343,7 @@ fn work(alloc: Global, demux: &mut Demux, film: &[Row]) -> Result<Done, DemuxErr
     }
 }
 
+#[tactic(auto, using(crate::proofs::Shapes::starts_fit))]
 fn find(demux: &mut Demux, video: u16, audio: u16) -> Result<Done, DemuxError> {
     match demux.next_job()? {
         Job::SeekTo { no, set, .. } => {
@@ -411,7 +413,10 @@ fn told(demux: &Demux, back: usize) -> Done {
         return ("none", 0);
     }
     match &journal[journal.len() - 1 - back] {
-        DemuxRecord::Sought { how: Sought::Sent, .. } => ("sent", 0),
+        DemuxRecord::Sought {
+            how: Sought::Sent,
+            ..
+        } => ("sent", 0),
         DemuxRecord::Switched { .. } => ("switched", 0),
         DemuxRecord::Dropped { drop, .. } => ("drop", drop.to.block),
         DemuxRecord::Joined { .. } => ("join", 0),
@@ -421,7 +426,7 @@ fn told(demux: &Demux, back: usize) -> Done {
     }
 }
 
-fn act(alloc: Global, demux: &mut Demux, film: &[Row], act: Act) -> Result<Done, DemuxError> {
+fn make(alloc: Global, demux: &mut Demux, film: &[Row], act: Act) -> Result<Done, DemuxError> {
     match act {
         Act::Work(_) => work(alloc, demux, film),
         Act::Find(video, audio) => find(demux, video, audio),
@@ -440,8 +445,8 @@ fn act(alloc: Global, demux: &mut Demux, film: &[Row], act: Act) -> Result<Done,
 
 // Where memory was wanting it is done again, and has to come out the same.
 fn again(alloc: Global, demux: &mut Demux, film: &[Row], done: Act) -> Result<Done, DemuxError> {
-    match act(alloc, demux, film, done) {
-        Err(DemuxError::NoMemory) => act(alloc, demux, film, done),
+    match make(alloc, demux, film, done) {
+        Err(DemuxError::NoMemory) => make(alloc, demux, film, done),
         answer => answer,
     }
 }
@@ -457,213 +462,190 @@ fn repeated(alloc: Global, demux: &mut Demux, film: &[Row], done: Act) -> Result
     again(alloc, demux, film, done)
 }
 
-fn open(rt: &HostRuntime, limits: Limits) -> Result<Demux, DemuxError>
+fn open(rt: &impl Abort, alloc: Global, limits: Limits) -> Result<Demux, DemuxError>
     requires { AreLimits limits }
 {
-    let list = tracks(rt.alloc())?;
+    let list = tracks(alloc)?;
     let known = are_known(&list, BOTH);
     assert!(rt; known);
-    Demux::new(rt.alloc(), list, BOTH, limits)
-}
-
-fn plays(
-    rt: &HostRuntime,
-    demux: &mut Demux,
-    film: &[Row],
-    rows: &[(Act, &str, u64)],
-) -> Result<(), DemuxError> {
-    for (i, (done, what, number)) in rows.iter().enumerate() {
-        let answer = repeated(rt.alloc(), demux, film, *done)?;
-        assert_eq!(rt; answer.0, *what, "{i}");
-        assert_eq!(rt; answer.1, *number, "{i}");
-    }
-    Ok(())
+    Demux::new(alloc, list, BOTH, limits)
 }
 
 // ---- the rows
 
+// The limits ahead and behind, the film, and what is done.
+type Case = (u16, u16, &'static [Row], &'static [Step]);
+
 // Sent behind the readers, with one part more than joins.
-#[test]
-fn joins_what_it_had(rt: HostRuntime) -> Result<(), Fail> {
-    let mut demux = open(&rt, limits(60_000, 60_000))?;
-    let rows = [
-        (Act::Work(13), "read", 13),
-        (Act::Seek(130, Dir::Back), "sent", 0),
-        (Act::Forward, "forward", 0),
-        (Act::Back, "back", 845),
-        (Act::Flags, "flags", 256),
-        (Act::Find(143, 150), "seek", 15),
-        (Act::Last, "join", 0),
-        (Act::Forward, "forward", 390),
-        (Act::Back, "back", 455),
-        (Act::Show, "shown", 1),
-    ];
-    plays(&rt, &mut demux, &ONE, rows.as_slice())?;
-    Ok(())
-}
+const JOINS_WHAT_IT_HAD: [Step; 10] = [
+    (Act::Work(13), "read", 13),
+    (Act::Seek(130, Dir::Back), "sent", 0),
+    (Act::Forward, "forward", 0),
+    (Act::Back, "back", 845),
+    (Act::Flags, "flags", 256),
+    (Act::Find(143, 150), "seek", 15),
+    (Act::Last, "join", 0),
+    (Act::Forward, "forward", 390),
+    (Act::Back, "back", 455),
+    (Act::Show, "shown", 1),
+];
 
 // Read to the end, and sought in what is cached, on either side of it.
-#[test]
-fn seeks_within(rt: HostRuntime) -> Result<(), Fail> {
-    let mut demux = open(&rt, limits(60_000, 60_000))?;
-    let rows = [
-        (Act::Work(19), "read", 19),
-        (Act::Work(1), "idle", 0),
-        (Act::Seek(1_000, Dir::Back), "cached", 0),
-        (Act::Read(1), "gave", 200),
-        (Act::Read(2), "gave", 207),
-        (Act::Read(2), "gave", 214),
-        (Act::Read(2), "end", 0),
-        (Act::Read(3), "unselected", 0),
-        (Act::Seek(-1_000, Dir::Back), "cached", 0),
-        (Act::Read(1), "gave", 86),
-        (Act::Seek(130, Dir::Forward), "cached", 0),
-        (Act::Read(1), "gave", 200),
-        (Act::Read(1), "gave", 221),
-        (Act::Read(1), "end", 0),
-        (Act::Flags, "flags", 257),
-    ];
-    plays(&rt, &mut demux, &ONE, rows.as_slice())?;
-    Ok(())
-}
+const SEEKS_WITHIN: [Step; 15] = [
+    (Act::Work(19), "read", 19),
+    (Act::Work(1), "idle", 0),
+    (Act::Seek(1_000, Dir::Back), "cached", 0),
+    (Act::Read(1), "gave", 200),
+    (Act::Read(2), "gave", 207),
+    (Act::Read(2), "gave", 214),
+    (Act::Read(2), "end", 0),
+    (Act::Read(3), "unselected", 0),
+    (Act::Seek(-1_000, Dir::Back), "cached", 0),
+    (Act::Read(1), "gave", 86),
+    (Act::Seek(130, Dir::Forward), "cached", 0),
+    (Act::Read(1), "gave", 200),
+    (Act::Read(1), "gave", 221),
+    (Act::Read(1), "end", 0),
+    (Act::Flags, "flags", 257),
+];
 
 // Two ranges that meet once the first is read on.
-#[test]
-fn reads_on_to_the_next(rt: HostRuntime) -> Result<(), Fail> {
-    let mut demux = open(&rt, limits(60_000, 60_000))?;
-    let rows = [
-        (Act::Work(7), "read", 7),
-        (Act::Seek(240, Dir::Back), "sent", 0),
-        (Act::Read(1), "not yet", 0),
-        (Act::Find(200, 207), "seek", 9),
-        (Act::Work(1), "resume", 10),
-        (Act::Work(4), "read", 14),
-        (Act::Flags, "flags", 513),
-        (Act::Seek(0, Dir::Back), "cached", 0),
-        (Act::Work(7), "read", 22),
-        (Act::Flags, "flags", 512),
-        (Act::Work(1), "read", 23),
-        (Act::Last, "join", 0),
-        (Act::Work(1), "idle", 0),
-        (Act::Forward, "forward", 1_170),
-        (Act::Back, "back", 0),
-        (Act::Flags, "flags", 257),
-    ];
-    plays(&rt, &mut demux, &ONE, rows.as_slice())?;
-    Ok(())
-}
+const READS_ON_TO_THE_NEXT: [Step; 16] = [
+    (Act::Work(7), "read", 7),
+    (Act::Seek(240, Dir::Back), "sent", 0),
+    (Act::Read(1), "not yet", 0),
+    (Act::Find(200, 207), "seek", 9),
+    (Act::Work(1), "resume", 10),
+    (Act::Work(4), "read", 14),
+    (Act::Flags, "flags", 513),
+    (Act::Seek(0, Dir::Back), "cached", 0),
+    (Act::Work(7), "read", 22),
+    (Act::Flags, "flags", 512),
+    (Act::Work(1), "read", 23),
+    (Act::Last, "join", 0),
+    (Act::Work(1), "idle", 0),
+    (Act::Forward, "forward", 1_170),
+    (Act::Back, "back", 0),
+    (Act::Flags, "flags", 257),
+];
 
 // Nothing is kept behind the readers.
-#[test]
-fn drops_what_was_read(rt: HostRuntime) -> Result<(), Fail> {
-    let mut demux = open(&rt, limits(60_000, 0))?;
-    let rows = [
-        (Act::Work(2), "read", 2),
-        (Act::Read(1), "gave", 86),
-        (Act::Last, "drop", 86),
-        (Act::Read(2), "gave", 93),
-        (Act::Last, "drop", 93),
-        (Act::Seek(0, Dir::Back), "sent", 0),
-    ];
-    plays(&rt, &mut demux, &ONE, rows.as_slice())?;
-    Ok(())
-}
+const DROPS_WHAT_WAS_READ: [Step; 6] = [
+    (Act::Work(2), "read", 2),
+    (Act::Read(1), "gave", 86),
+    (Act::Last, "drop", 86),
+    (Act::Read(2), "gave", 93),
+    (Act::Last, "drop", 93),
+    (Act::Seek(0, Dir::Back), "sent", 0),
+];
 
 // One packet is read ahead.
-#[test]
-fn reads_no_further(rt: HostRuntime) -> Result<(), Fail> {
-    let mut demux = open(&rt, limits(0, 60_000))?;
-    let rows = [
-        (Act::Work(1), "resume", 1),
-        (Act::Work(1), "idle", 0),
-        (Act::Read(2), "overfull", 65),
-        (Act::Read(1), "gave", 86),
-        (Act::Work(1), "read", 2),
-        (Act::Read(2), "gave", 93),
-    ];
-    plays(&rt, &mut demux, &ONE, rows.as_slice())?;
-    Ok(())
-}
+const READS_NO_FURTHER: [Step; 6] = [
+    (Act::Work(1), "resume", 1),
+    (Act::Work(1), "idle", 0),
+    (Act::Read(2), "overfull", 65),
+    (Act::Read(1), "gave", 86),
+    (Act::Work(1), "read", 2),
+    (Act::Read(2), "gave", 93),
+];
 
 // A read that fails is told until the next seek.
-#[test]
-fn tells_a_fault(rt: HostRuntime) -> Result<(), Fail> {
-    let mut demux = open(&rt, limits(60_000, 60_000))?;
-    let rows = [
-        (Act::Work(1), "resume", 1),
-        (Act::Fail, "failed", 2),
-        (Act::Read(1), "gave", 86),
-        (Act::Read(2), "fault", 1),
-        (Act::Work(1), "idle", 0),
-        (Act::Seek(0, Dir::Back), "sent", 0),
-        (Act::Find(86, 93), "seek", 4),
-        (Act::Last, "join", 0),
-        (Act::Work(1), "resume", 5),
-        (Act::Read(2), "gave", 93),
-    ];
-    plays(&rt, &mut demux, &ONE, rows.as_slice())?;
-    Ok(())
-}
+const TELLS_A_FAULT: [Step; 10] = [
+    (Act::Work(1), "resume", 1),
+    (Act::Fail, "failed", 2),
+    (Act::Read(1), "gave", 86),
+    (Act::Read(2), "fault", 1),
+    (Act::Work(1), "idle", 0),
+    (Act::Seek(0, Dir::Back), "sent", 0),
+    (Act::Find(86, 93), "seek", 4),
+    (Act::Last, "join", 0),
+    (Act::Work(1), "resume", 5),
+    (Act::Read(2), "gave", 93),
+];
 
 // An audio track that comes in the place of another, and selections that are refused.
-#[test]
-fn switches(rt: HostRuntime) -> Result<(), Fail> {
-    let mut demux = open(&rt, limits(60_000, 60_000))?;
-    let rows = [
-        (Act::Work(7), "read", 7),
-        (Act::Read(1), "gave", 106),
-        (Act::Read(1), "gave", 134),
-        (Act::Read(2), "gave", 113),
-        (Act::Read(2), "gave", 127),
-        (Act::Select(&[1, 3], 150), "changed", 0),
-        (Act::Before, "switched", 0),
-        (Act::Last, "drop", 155),
-        (Act::Read(3), "not yet", 0),
-        (Act::Find(0, 141), "refresh", 9),
-        (Act::Work(6), "read", 15),
-        (Act::Read(3), "gave", 141),
-        (Act::Read(1), "gave", 155),
-        (Act::Read(3), "gave", 169),
-        (Act::Read(1), "end", 0),
-        (Act::Read(3), "end", 0),
-        (Act::Select(&[1, 1, 3], 150), "same", 0),
-        (Act::Select(&[4, 1, 2, 9], 0), "unknown", 9),
-        (Act::Select(&[2, 3, 4], 0), "unsupported", 4),
-        (Act::Select(&[1, 2, 3, 2], 0), "two", 3),
-        (Act::Last, "refused", 0),
-        (Act::Seek(5_000, Dir::Back), "cached", 0),
-        (Act::Read(3), "gave", 141),
-        (Act::Select(&[], 0), "changed", 0),
-        (Act::Flags, "flags", 0),
-        (Act::Work(1), "idle", 0),
-        (Act::Seek(0, Dir::Back), "no track", 0),
-    ];
-    plays(&rt, &mut demux, &TWO, rows.as_slice())?;
+const SWITCHES: [Step; 27] = [
+    (Act::Work(7), "read", 7),
+    (Act::Read(1), "gave", 106),
+    (Act::Read(1), "gave", 134),
+    (Act::Read(2), "gave", 113),
+    (Act::Read(2), "gave", 127),
+    (Act::Select(&[1, 3], 150), "changed", 0),
+    (Act::Before, "switched", 0),
+    (Act::Last, "drop", 155),
+    (Act::Read(3), "not yet", 0),
+    (Act::Find(0, 141), "refresh", 9),
+    (Act::Work(6), "read", 15),
+    (Act::Read(3), "gave", 141),
+    (Act::Read(1), "gave", 155),
+    (Act::Read(3), "gave", 169),
+    (Act::Read(1), "end", 0),
+    (Act::Read(3), "end", 0),
+    (Act::Select(&[1, 1, 3], 150), "same", 0),
+    (Act::Select(&[4, 1, 2, 9], 0), "unknown", 9),
+    (Act::Select(&[2, 3, 4], 0), "unsupported", 4),
+    (Act::Select(&[1, 2, 3, 2], 0), "two", 3),
+    (Act::Last, "refused", 0),
+    (Act::Seek(5_000, Dir::Back), "cached", 0),
+    (Act::Read(3), "gave", 141),
+    (Act::Select(&[], 0), "changed", 0),
+    (Act::Flags, "flags", 0),
+    (Act::Work(1), "idle", 0),
+    (Act::Seek(0, Dir::Back), "no track", 0),
+];
+
+// A seek that is pending is sent again.
+const SENDS_A_SEEK_AGAIN: [Step; 8] = [
+    (Act::Seek(200, Dir::Back), "sent", 0),
+    (Act::Select(&[1], 0), "changed", 0),
+    (Act::Before, "switched", 0),
+    (Act::Last, "sent", 0),
+    (Act::Find(143, 0), "seek", 3),
+    (Act::Work(1), "resume", 4),
+    (Act::Read(1), "gave", 143),
+    (Act::Read(2), "unselected", 0),
+];
+
+const CASES: [Case; 8] = [
+    (60_000, 60_000, &ONE, &JOINS_WHAT_IT_HAD),
+    (60_000, 60_000, &ONE, &SEEKS_WITHIN),
+    (60_000, 60_000, &ONE, &READS_ON_TO_THE_NEXT),
+    (60_000, 0, &ONE, &DROPS_WHAT_WAS_READ),
+    (0, 60_000, &ONE, &READS_NO_FURTHER),
+    (60_000, 60_000, &ONE, &TELLS_A_FAULT),
+    (60_000, 60_000, &TWO, &SWITCHES),
+    (60_000, 60_000, &ONE, &SENDS_A_SEEK_AGAIN),
+];
+
+fn plays(
+    rt: &impl Abort,
+    alloc: Global,
+    case: usize,
+    demux: &mut Demux,
+    film: &[Row],
+    steps: &[Step],
+) -> Result<(), DemuxError> {
+    for (i, (done, what, number)) in steps.iter().enumerate() {
+        let answer = repeated(alloc, demux, film, *done)?;
+        assert_eq!(rt; answer.0, *what, "{case} {i}");
+        assert_eq!(rt; answer.1, *number, "{case} {i}");
+    }
     Ok(())
 }
 
-// A seek that is pending is sent again.
 #[test]
-fn sends_a_seek_again(rt: HostRuntime) -> Result<(), Fail> {
-    let mut demux = open(&rt, limits(60_000, 60_000))?;
-    let rows = [
-        (Act::Seek(200, Dir::Back), "sent", 0),
-        (Act::Select(&[1], 0), "changed", 0),
-        (Act::Before, "switched", 0),
-        (Act::Last, "sent", 0),
-        (Act::Find(143, 0), "seek", 3),
-        (Act::Work(1), "resume", 4),
-        (Act::Read(1), "gave", 143),
-        (Act::Read(2), "unselected", 0),
-    ];
-    plays(&rt, &mut demux, &ONE, rows.as_slice())?;
+fn answers_by_the_rules(rt: HostRuntime) -> Result<(), Fail> {
+    for (i, (ahead, behind, film, steps)) in CASES.iter().enumerate() {
+        let mut demux = open(&rt, rt.alloc(), limits(*ahead, *behind))?;
+        plays(&rt, rt.alloc(), i, &mut demux, film, steps)?;
+    }
     Ok(())
 }
 
 // A part of the film that comes behind a seek is stale.
 #[test]
 fn leaves_what_is_stale(rt: HostRuntime) -> Result<(), Fail> {
-    let mut demux = open(&rt, limits(60_000, 60_000))?;
+    let mut demux = open(&rt, rt.alloc(), limits(60_000, 60_000))?;
     let opening = mark_at(0);
     let read = Job::Resume {
         no: 1,

@@ -19,3 +19,4 @@ pub mod FilmDrops
 pub mod FilmPruned
 pub mod Shapes
 pub mod JoinedUp
+pub mod Sought

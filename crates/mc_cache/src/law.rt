@@ -17,12 +17,13 @@ ghost use Rattle.mc_journal.specs.Films.{IsRising, rank};
 ghost use Rattle.mc_journal.specs.Ranges.{serves};
 ghost use Rattle.mc_journal.specs.Stands.{chosen, fed, first_that, found_with, left, ranges_of, switched, tidied, found, dropped};
 ghost use Rattle.mc_journal.specs.Used.{Due, IsDue, due_found, due_switch, CutsIn};
-ghost use Rattle.mc_journal.specs.Views.{forward_in, range_shown, range_weight};
+ghost use Rattle.mc_journal.specs.Views.{chosen_head, forward_in, range_shown, range_weight};
 ghost use Rattle.mc_journal.specs.Allowed.{MayCut, touched};
 ghost use Rattle.mc_range.specs.Range.{IsRange, RangeState, as_range};
 ghost use Rattle.mc_range.specs.Filmed.{IsPart, same_kinds, start_only};
+ghost use Rattle.mc_range.specs.Serving.{AreHeads};
 ghost use Rattle.mc_cache.specs.Cache.{CacheState, IsCache, IsOther, stand_of};
-ghost use Rattle.mc_cache.specs.Changing.{AddsTrack, Feeds, IsChosen, IsLeft, IsOnlyRoomier, IsRetracked, IsSameButRoom, IsStarted, MayAdd, server};
+ghost use Rattle.mc_cache.specs.Changing.{AddsTrack, Feeds, IsChosen, IsLeft, IsOnlyRoomier, IsRetracked, IsSameButRoom, IsStarted, MayAdd, heads_in, server};
 ghost use Rattle.mc_cache.specs.Joining.{IsJoinedUp, Joins};
 ghost use Rattle.mc_cache.specs.Filmed.{AreTouched, HoldsAll, HoldsIn, JoinsFilm, joined_times};
 ghost use Rattle.mc_cache.specs.Placed.{AddsStarts, AllFramed, HeadsAt, due_of};
@@ -37,6 +38,14 @@ pub fn chosen_films()
     ensures server { (ps : List Told) (set : Choice) (t : ℤ) (dir : Dir) (st : CacheState) → IsCache st → HoldsAll ps set st → first_that (serves ps set dir t) (ranges_of (stand_of st)) ≡ option_map as_range (server set t dir st) }
     ensures stand { (ps : List Told) (set : Choice) (t : ℤ) (dir : Dir) (old new : CacheState) → IsCache old → HoldsAll ps set old → IsChosen set t dir old new → stand_of new ≡ tidied ps set (chosen (serves ps set dir t) (stand_of old)) }
     ensures film { (ps : List Told) (set : Choice) (t : ℤ) (dir : Dir) (old new : CacheState) → HoldsAll ps set old → IsChosen set t dir old new → HoldsAll ps set new }
+{}
+
+/// A seek is answered exactly where the rule serves it from a range, with the heads of the rule; and
+/// heads of all selected tracks that stand at their places are those of each queue of a range.
+pub fn sought_films()
+    ensures served { (ps : List Told) (set : Choice) (t : ℤ) (dir : Dir) (st : CacheState) → IsCache st → HoldsAll ps set st → is_some (heads_in set t dir (server set t dir st)) ≡ is_some (first_that (serves ps set dir t) (ranges_of (stand_of st))) }
+    ensures heads { (ps : List Told) (set : Choice) (t : ℤ) (dir : Dir) (st : CacheState) → IsCache st → HoldsAll ps set st → is_distinct set ≡ true → IfSome (heads_in set t dir (server set t dir st)) (λ h. AreHeads set (λ track. chosen_head ps set dir t track (first_that (serves ps set dir t) (ranges_of (stand_of st)))) h) }
+    ensures placed { (set : Choice) (heads : Heads) (place : ℕ → ℕ) (r : RangeState) → IsRange r → r.set ≡ set → AreHeads set place heads → HeadsAt set heads place r }
 {}
 
 /// A range that is left stands in front of the others, unless it holds nothing.

@@ -22,7 +22,7 @@ mod views;
 pub use cache::{Cache, Joins};
 pub use law::{
     added_films, chosen_films, fed_films, joined_films, joined_up_films, left_films, pruned_films,
-    roomy_films, started_films, switched_films, tidy_films, told_films, viewed_films,
+    roomy_films, sought_films, started_films, switched_films, tidy_films, told_films, viewed_films,
 };
 pub use mc_journal::{Cause, Removal};
 pub use mc_packet::NoMemory;

@@ -1,7 +1,7 @@
 ghost use Rattle.std.specs.Prelude.{◌<◌};
 
 use crate::counting::CountingShelf;
-use crate::film::{GROUPS, long_film, place_of};
+use crate::groups::{GROUPS, long_film, place_of};
 use mc_cursor::Cursor;
 use mc_index::Index;
 use mc_outside::{CleanShelf, NamedFile, NamedFiles, Shelf};

@@ -16,8 +16,6 @@ mod law;
 mod scan;
 mod search;
 mod starts;
-#[cfg(test)]
-mod tests;
 
 pub use index::Index;
 pub use law::block_marks;

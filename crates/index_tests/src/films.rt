@@ -1,5 +1,6 @@
-use crate::Index;
+use crate::rule::{Key, start_of};
 use mc_cursor::{BlockMark, Cursor};
+use mc_index::Index;
 use mc_outside::{MemShelf, NamedFile, NamedFiles, Shelf, Spots};
 use mc_packet::{Choice, Dir, Level, Mark, Starts, TrackNo};
 use std::alloc::Global;
@@ -41,7 +42,7 @@ const TWO: [u8; 176] = [
 ];
 
 // The keyframes: track, offset of the block, and time in milliseconds.
-const ONE_KEYS: [(TrackNo, u64, i64); 13] = [
+const ONE_KEYS: [Key; 13] = [
     (1, 86, 0),
     (2, 93, 0),
     (2, 100, 30),
@@ -57,7 +58,7 @@ const ONE_KEYS: [(TrackNo, u64, i64); 13] = [
     (2, 214, 270),
 ];
 
-const TWO_KEYS: [(TrackNo, u64, i64); 9] = [
+const TWO_KEYS: [Key; 9] = [
     (1, 106, 0),
     (2, 113, 0),
     (3, 120, 0),
@@ -126,55 +127,11 @@ fn set_of(video: Option<TrackNo>, audio: Option<TrackNo>) -> Choice {
     }
 }
 
-// The plain rule over a whole list: offset and time of the keyframe that a track starts at.
-fn keyframe(keys: &[(TrackNo, u64, i64)], track: TrackNo, dir: Dir, t: i64) -> Option<(u64, i64)> {
-    let mut upto = None;
-    let mut from = None;
-    let mut first = None;
-    let mut last = None;
-    for (no, block, time) in keys {
-        if *no == track {
-            let key = (*block, *time);
-            first = first.or(Some(key));
-            last = Some(key);
-            if *time <= t {
-                upto = Some(key);
-            } else {
-                from = from.or(Some(key));
-            }
-            if *time == t {
-                from = Some(key);
-            }
-        }
-    }
-    match dir {
-        Dir::Back => upto.or(first),
-        Dir::Forward => from.or(last),
-    }
-}
-
-// Where a video and an audio track start.
-fn rule(
-    keys: &[(TrackNo, u64, i64)],
-    video: TrackNo,
-    audio: TrackNo,
-    dir: Dir,
-    t: i64,
-) -> Option<(u64, u64)> {
-    let (start, time) = keyframe(keys, video, dir, t)?;
-    let (beside, _) = keyframe(keys, audio, Dir::Back, time)?;
-    Some((start, beside))
-}
-
-fn is_at(starts: Starts, wanted: Option<(u64, u64)>) -> bool {
-    let Some((video, audio)) = wanted else {
-        return false;
-    };
-    let least = if audio < video { audio } else { video };
+fn is_at(starts: Starts, video: u64, audio: u64) -> bool {
     starts.video == Some(video)
         && starts.audio == Some(audio)
         && starts.sub.is_none()
-        && starts.mark.pos == least
+        && starts.mark.pos == video.min(audio)
 }
 
 #[test]
@@ -224,23 +181,32 @@ fn trusts_no_cues(rt: HostRuntime) -> Result<(), Fail> {
     octets.extend_from_slice(&[0xB7, 0x86, 0xF7, 0x81, 0x01, 0xF1, 0x81, 0x01])?;
     let mut film = opened(alloc, octets.as_slice())?;
     let set = set_of(Some(1), Some(2));
-    assert!(rt; is_at(film.find(set, 999, Dir::Back)?, Some((200, 207))));
-    assert!(rt; is_at(film.find(set, 200, Dir::Back)?, Some((143, 150))));
+    assert!(rt; is_at(film.find(set, 999, Dir::Back)?, 200, 207));
+    assert!(rt; is_at(film.find(set, 200, Dir::Back)?, 143, 150));
     Ok(())
 }
 
-// Every 7 ms from before the first keyframe to behind the last one, over one index.
-fn follows_rule(
+// The starts at a time are those of the rule over the film's whole table of keyframes.
+fn is_by_rule(
     film: &mut Reading,
-    keys: &[(TrackNo, u64, i64)],
+    keys: &[Key],
     audio: TrackNo,
     dir: Dir,
+    t: i16,
 ) -> Result<bool, Fail> {
+    let set = set_of(Some(1), Some(audio));
+    let starts = film.find(set, t, dir)?;
+    let t = t as i64;
+    let video_start = start_of(keys, set, dir, t, 1);
+    let audio_start = start_of(keys, set, dir, t, audio);
+    Ok(is_at(starts, video_start, audio_start))
+}
+
+// Every 7 ms from before the first keyframe to behind the last one, over one index.
+fn follows_rule(film: &mut Reading, keys: &[Key], audio: TrackNo, dir: Dir) -> Result<bool, Fail> {
     let mut right = true;
     for step in 0..58u8 {
-        let t = 7 * (step as i16) - 1;
-        let starts = film.find(set_of(Some(1), Some(audio)), t, dir)?;
-        right = right && is_at(starts, rule(keys, 1, audio, dir, t as i64));
+        right = right && is_by_rule(film, keys, audio, dir, 7 * (step as i16) - 1)?;
     }
     Ok(right)
 }

@@ -1,6 +1,6 @@
 -- Which marks the ranges have behind what calls do to them.
 use Rattle.std.proofs.Common.{◌≡◌, ℕ, ℤ, Option, Some, None, List, [], ◌∷◌, ◌++◌, ap, sym, subst}
-use Rattle.std.specs.Prelude.{Contains, IfSome, IsSomeAnd, if◌then◌else◌, nat_lt, option_map, take}
+use Rattle.std.specs.Prelude.{Contains, IfSome, IsSomeAnd, nat_lt, option_map}
 use Rattle.std.specs.List.{AllByRecursion}
 use Rattle.std.proofs.lemmas.Bool.{cond_both}
 use Rattle.mc_packet.specs.declared.cache.Heads.{Heads}
@@ -16,13 +16,13 @@ use Rattle.mc_journal.specs.declared.record.DemuxRecord.TheVariants.{Fed, Sought
 use Rattle.mc_journal.specs.declared.record.Removal.{Removal}
 use Rattle.mc_journal.specs.declared.record.Sought.{Sought as How}
 use Rattle.mc_journal.specs.Choices.{is_empty}
-use Rattle.mc_range.specs.Range.{RangeState, IsBegun, IsRoomier, meets_range}
+use Rattle.mc_range.specs.Range.{RangeState, IsBegun, meets_range}
 use Rattle.mc_range.specs.Growing.{IsFed}
-use Rattle.mc_range.specs.Joining.{IsJoined, greater}
+use Rattle.mc_range.specs.Joining.{greater}
 use Rattle.mc_range.specs.Tracks.{IsAdded, retracked}
 use Rattle.mc_cache.specs.Cache.{CacheState, in_front, left_with, ranges_of}
 use Rattle.mc_cache.specs.Changing.{ChangesCurrent, IsRetracked, IsSameButRoom, IsStarted, RoomierIn}
-use Rattle.mc_cache.specs.Joining.{IsJoinedUp, Joins, JoinsFrom}
+use Rattle.mc_cache.specs.Joining.{Joins, JoinsFrom}
 use Rattle.mc_cache.specs.Joining.Joins.{parted, united as joins_united, unjoined}
 use Rattle.mc_cache.proofs.Standing.{all_find, all_without}
 use Rattle.mc_demux.specs.Feeding.{TakesPart}

@@ -10,7 +10,7 @@ use Rattle.mc_script.specs.declared.acts.Act.TheVariants as acts
 use Rattle.mc_script.specs.Plays.{Begins, Leaves, May, Readings, caller, is_outcome, outcomes}
 use Rattle.mc_lines.specs.declared.halt.Halt.{Halt}
 use Rattle.mc_lines.specs.declared.halt.Halt.TheVariants as halts
-use Rattle.mc_lines.specs.Calls.{Ahead, Outcome, at}
+use Rattle.mc_lines.specs.Calls.{Ahead, Fixed, Outcome, at}
 use Rattle.mc_lines.specs.Lines.{Grows, Line, Stands, Turns}
 use Rattle.mc_lines.proofs.Counts.{count-one}
 use Rattle.mc_lines.proofs.Growing.{grows_none, grows_outcome}
@@ -69,6 +69,6 @@ turn_grows w before after old new (Ok false) l h = grows_none before after old n
 turn_grows w before after old new (Err e) l h = grows_none before after old new l (stood old new e h)
 
 -- a file whose octets a shelf tells is the same on the shelf that it became
-pub told_still : (files files' : Option Files) (opened opened' : Opened) (file file' : ℕ) (octets : List ℕ) → files' ≡ files → opened' ≡ opened → file' ≡ file → content files opened file ≡ Some octets
-    → content files' opened' file' ≡ Some octets
-told_still files files' opened opened' file file' octets e f g h = rw (e, f, g) h
+pub told_still : (files files' : Option Files) (opened opened' : Opened) (fixed fixed' : Fixed) (octets : List ℕ) → files' ≡ files → opened' ≡ opened → fixed' ≡ fixed → content files opened fixed.file ≡ Some octets
+    → content files' opened' fixed'.file ≡ Some octets
+told_still files files' opened opened' fixed fixed' octets e f g h = rw (e, f, ap (λ (x : Fixed). x.file) g) h

@@ -7,6 +7,7 @@ use Rattle.mc_packet.specs.declared.choice.Dir.{Dir}
 use Rattle.mc_packet.specs.declared.choice.Why.{Why}
 use Rattle.mc_packet.specs.declared.choice.Why.TheVariants.{NoTrack}
 use Rattle.mc_packet.specs.declared.cache.CacheView.{CacheView}
+use Rattle.mc_packet.specs.declared.cache.Limits.{Limits}
 use Rattle.mc_journal.specs.declared.record.Sought.{Sought as How}
 use Rattle.mc_journal.specs.declared.record.Sought.TheVariants.{Sent}
 use Rattle.mc_journal.specs.declared.record.DemuxRecord.{DemuxRecord}
@@ -56,6 +57,13 @@ pending_of h = if pending (newest h) then option_map (λ t. (t, direction (newes
 -- as a film's readings say of a journal
 abbrev pub at : Readings → List DemuxRecord → Ahead
 at rd h = record { set = selection h; front = rd.front h; tells = rd.tells h; idle = rd.idle h; time = rd.time h; choice = rd.choice; pending = pending_of h }
+
+-- ---- what stays
+
+-- the number of the film's file on a shelf, and how much is cached
+pub record Fixed : Type 0 where
+  pub file : ℕ
+  pub limits : Limits
 
 -- ---- jobs
 

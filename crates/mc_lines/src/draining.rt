@@ -37,11 +37,11 @@ fn without(set: Choice, kind: Kind) -> Choice
 /// demuxer does a job. Each step adds a record to a journal that is not full, so the steps end.
 /// `JournalFull` only where the journal has 16,000,000 records, and `NoMemory` for want of memory.
 pub fn drain<S: Shelf, M: Machine>(machine: &mut M, shelf: &mut S) -> Result<(), Halt>
-    ensures line { (octets : List ℕ) (rd : Readings) → content (S.files shelf.old) (S.opened shelf.old) (M.file machine.old) ≡ Some octets → M.stands machine.old octets rd → Line rd Drain None (M.journal machine.old) (M.journal machine.new) result }
+    ensures line { (octets : List ℕ) (rd : Readings) → content (S.files shelf.old) (S.opened shelf.old) (M.fixed machine.old).file ≡ Some octets → M.stands machine.old octets rd → Line rd Drain None (M.journal machine.old) (M.journal machine.new) result }
     ensures full { IsFull (M.journal machine.new) result }
     ensures grows { Grows (S.faults shelf.old) (S.faults shelf.new) (M.journal machine.old) (M.journal machine.new) }
-    ensures stands { (octets : List ℕ) (rd : Readings) → content (S.files shelf.old) (S.opened shelf.old) (M.file machine.old) ≡ Some octets → M.stands machine.old octets rd → M.stands machine.new octets rd }
-    ensures file { M.file machine.new ≡ M.file machine.old }
+    ensures stands { (octets : List ℕ) (rd : Readings) → content (S.files shelf.old) (S.opened shelf.old) (M.fixed machine.old).file ≡ Some octets → M.stands machine.old octets rd → M.stands machine.new octets rd }
+    ensures fixed { M.fixed machine.new ≡ M.fixed machine.old }
     ensures files { S.files shelf.new ≡ S.files shelf.old }
     ensures opened { S.opened shelf.new ≡ S.opened shelf.old }
 {

@@ -12,7 +12,7 @@ pub(crate) fn seek_line<M: Machine>(machine: &mut M, t: i64, dir: Dir) -> Result
     ensures full { IsFull (M.journal machine.new) result }
     ensures orders { Orders (M.journal machine.old) (M.journal machine.new) (M.jobs machine.old) (M.jobs machine.new) }
     ensures stands { (octets : List ℕ) (rd : Readings) → M.stands machine.old octets rd → M.stands machine.new octets rd }
-    ensures file { M.file machine.new ≡ M.file machine.old }
+    ensures fixed { M.fixed machine.new ≡ M.fixed machine.old }
 {
     settled(machine.seek(0, t, dir))
 }
@@ -27,7 +27,7 @@ pub(crate) fn switch_line<M: Machine>(
     ensures full { IsFull (M.journal machine.new) result }
     ensures orders { Orders (M.journal machine.old) (M.journal machine.new) (M.jobs machine.old) (M.jobs machine.new) }
     ensures stands { (octets : List ℕ) (rd : Readings) → M.stands machine.old octets rd → M.stands machine.new octets rd }
-    ensures file { M.file machine.new ≡ M.file machine.old }
+    ensures fixed { M.fixed machine.new ≡ M.fixed machine.old }
 {
     let at = at.unwrap_or(machine.time());
     settled(machine.select(0, set, at))
@@ -38,7 +38,7 @@ pub(crate) fn show_line<M: Machine>(machine: &mut M) -> Result<(), Halt>
     ensures full { IsFull (M.journal machine.new) result }
     ensures orders { Orders (M.journal machine.old) (M.journal machine.new) (M.jobs machine.old) (M.jobs machine.new) }
     ensures stands { (octets : List ℕ) (rd : Readings) → M.stands machine.old octets rd → M.stands machine.new octets rd }
-    ensures file { M.file machine.new ≡ M.file machine.old }
+    ensures fixed { M.fixed machine.new ≡ M.fixed machine.old }
 {
     settled(machine.show(0))
 }

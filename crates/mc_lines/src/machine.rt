@@ -9,7 +9,7 @@ pub trait Machine {
     ghost use Rattle.mc_outside.specs.Shelf.{content};
     ghost use Rattle.mc_journal.specs.declared.record.DemuxRecord.{DemuxRecord};
     ghost use Rattle.mc_script.specs.Plays.{Readings};
-    ghost use Rattle.mc_lines.specs.Calls.{Ahead, AnswersOn, AtRest, Bears, Brings, Jobs, Peeks, Reads, Seeks, Selects, Shows, Takes, at};
+    ghost use Rattle.mc_lines.specs.Calls.{Ahead, AnswersOn, AtRest, Bears, Brings, Fixed, Jobs, Peeks, Reads, Seeks, Selects, Shows, Takes, at};
 
     ghost journal: { Self → List DemuxRecord };
 
@@ -19,8 +19,8 @@ pub trait Machine {
     /// What the next calls would answer.
     ghost ahead: { Self → Ahead };
 
-    /// The number of the film's file on a shelf.
-    ghost file: { Self → ℕ };
+    /// The number of the film's file on a shelf, and how much is cached.
+    ghost fixed: { Self → Fixed };
 
     /// It stands for the film of these octets, of which these readings are.
     ghost stands: { Self → List ℕ → Readings → Type 0 };
@@ -28,29 +28,29 @@ pub trait Machine {
     fn seek(&mut self, by: u32, t: i64, dir: Dir) -> Result<Sought, DemuxError>
         ensures seeks { Seeks (ahead self.old) by t dir (journal self.old) (journal self.new) (jobs self.old) (jobs self.new) result }
         ensures stands { (octets : List ℕ) (rd : Readings) → stands self.old octets rd → stands self.new octets rd }
-        ensures file { file self.new ≡ file self.old };
+        ensures fixed { fixed self.new ≡ fixed self.old };
 
     fn select(&mut self, by: u32, set: &[TrackNo], at: i64) -> Result<Selected, DemuxError>
         ensures selects { Selects (ahead self.old) by set.now at (journal self.old) (journal self.new) (jobs self.old) (jobs self.new) result }
         ensures stands { (octets : List ℕ) (rd : Readings) → stands self.old octets rd → stands self.new octets rd }
-        ensures file { file self.new ≡ file self.old };
+        ensures fixed { fixed self.new ≡ fixed self.old };
 
     fn show(&mut self, by: u32) -> Result<CacheView, DemuxError>
         ensures shows { Shows by (journal self.old) (journal self.new) (jobs self.old) (jobs self.new) result }
         ensures stands { (octets : List ℕ) (rd : Readings) → stands self.old octets rd → stands self.new octets rd }
-        ensures file { file self.new ≡ file self.old };
+        ensures fixed { fixed self.new ≡ fixed self.old };
 
     fn next_job(&mut self) -> Result<Job, DemuxError>
         ensures takes { Takes (ahead self.old) (journal self.old) (journal self.new) (jobs self.old) (jobs self.new) result }
         ensures stands { (octets : List ℕ) (rd : Readings) → stands self.old octets rd → stands self.new octets rd }
-        ensures file { file self.new ≡ file self.old };
+        ensures fixed { fixed self.new ≡ fixed self.old };
 
     /// Does a job that was taken, on the shelf that holds the film's file, and brings its outcome.
     fn bring<S: Shelf>(&mut self, shelf: &mut S, job: Job) -> Result<Taken, DemuxError>
         requires bears { Bears job (jobs self.old) }
         ensures brings { Brings job (S.faults shelf.old) (S.faults shelf.new) (journal self.old) (journal self.new) (jobs self.old) (jobs self.new) result }
-        ensures stands { (octets : List ℕ) (rd : Readings) → content (S.files shelf.old) (S.opened shelf.old) (file self.old) ≡ Some octets → stands self.old octets rd → stands self.new octets rd }
-        ensures file { file self.new ≡ file self.old }
+        ensures stands { (octets : List ℕ) (rd : Readings) → content (S.files shelf.old) (S.opened shelf.old) (fixed self.old).file ≡ Some octets → stands self.old octets rd → stands self.new octets rd }
+        ensures fixed { fixed self.new ≡ fixed self.old }
         ensures files { S.files shelf.new ≡ S.files shelf.old }
         ensures opened { S.opened shelf.new ≡ S.opened shelf.old }
         ensures later { S.faults shelf.old ≤ S.faults shelf.new };
@@ -60,7 +60,7 @@ pub trait Machine {
         ensures jobs { jobs self.new ≡ jobs self.old }
         ensures film { (octets : List ℕ) (rd : Readings) → stands self.old octets rd → AnswersOn rd track (journal self.old) (journal self.new) result }
         ensures stands { (octets : List ℕ) (rd : Readings) → stands self.old octets rd → stands self.new octets rd }
-        ensures file { file self.new ≡ file self.old };
+        ensures fixed { fixed self.new ≡ fixed self.old };
 
     /// What a read of the track would answer.
     fn peek(&self, track: TrackNo) -> Peek

@@ -40,7 +40,7 @@ pub(crate) fn read_one<M: Machine>(machine: &mut M, kind: Kind, track: TrackNo) 
     ensures reads { ReadsOne (M.ahead machine.old) (reader_lem kind) track (M.journal machine.old) (M.journal machine.new) result }
     ensures film { (octets : List ℕ) (rd : Readings) → M.stands machine.old octets rd → ReadsOn rd (reader_lem kind) track (M.journal machine.old) (M.journal machine.new) result }
     ensures stands { (octets : List ℕ) (rd : Readings) → M.stands machine.old octets rd → M.stands machine.new octets rd }
-    ensures file { M.file machine.new ≡ M.file machine.old }
+    ensures fixed { M.fixed machine.new ≡ M.fixed machine.old }
 {
     halted(machine.read(reader(kind), track))
 }
@@ -51,7 +51,7 @@ pub(crate) fn read_line<M: Machine>(machine: &mut M, kind: Kind, count: u32) -> 
     ensures full { IsFull (M.journal machine.new) result }
     ensures orders { Orders (M.journal machine.old) (M.journal machine.new) (M.jobs machine.old) (M.jobs machine.new) }
     ensures stands { (octets : List ℕ) (rd : Readings) → M.stands machine.old octets rd → M.stands machine.new octets rd }
-    ensures file { M.file machine.new ≡ M.file machine.old }
+    ensures fixed { M.fixed machine.new ≡ M.fixed machine.old }
 {
     let by = reader(kind);
     let Some(track) = track_of(machine.selection(), kind) else {

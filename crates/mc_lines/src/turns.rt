@@ -15,8 +15,8 @@ use mc_outside::Shelf;
 pub fn turn<S: Shelf, M: Machine>(machine: &mut M, shelf: &mut S) -> Result<bool, Halt>
     ensures turns { Turns (M.ahead machine.old) (S.faults shelf.old) (S.faults shelf.new) (M.journal machine.old) (M.journal machine.new) result }
     ensures full { IsFull (M.journal machine.new) result }
-    ensures stands { (octets : List ℕ) (rd : Readings) → content (S.files shelf.old) (S.opened shelf.old) (M.file machine.old) ≡ Some octets → M.stands machine.old octets rd → M.stands machine.new octets rd }
-    ensures file { M.file machine.new ≡ M.file machine.old }
+    ensures stands { (octets : List ℕ) (rd : Readings) → content (S.files shelf.old) (S.opened shelf.old) (M.fixed machine.old).file ≡ Some octets → M.stands machine.old octets rd → M.stands machine.new octets rd }
+    ensures fixed { M.fixed machine.new ≡ M.fixed machine.old }
     ensures files { S.files shelf.new ≡ S.files shelf.old }
     ensures opened { S.opened shelf.new ≡ S.opened shelf.old }
     ensures later { S.faults shelf.old ≤ S.faults shelf.new }
@@ -37,11 +37,11 @@ pub(crate) fn demux_line<S: Shelf, M: Machine>(
     shelf: &mut S,
     count: u32,
 ) -> Result<(), Halt>
-    ensures line { (octets : List ℕ) (rd : Readings) → content (S.files shelf.old) (S.opened shelf.old) (M.file machine.old) ≡ Some octets → M.stands machine.old octets rd → Line rd (Demux count) None (M.journal machine.old) (M.journal machine.new) result }
+    ensures line { (octets : List ℕ) (rd : Readings) → content (S.files shelf.old) (S.opened shelf.old) (M.fixed machine.old).file ≡ Some octets → M.stands machine.old octets rd → Line rd (Demux count) None (M.journal machine.old) (M.journal machine.new) result }
     ensures full { IsFull (M.journal machine.new) result }
     ensures grows { Grows (S.faults shelf.old) (S.faults shelf.new) (M.journal machine.old) (M.journal machine.new) }
-    ensures stands { (octets : List ℕ) (rd : Readings) → content (S.files shelf.old) (S.opened shelf.old) (M.file machine.old) ≡ Some octets → M.stands machine.old octets rd → M.stands machine.new octets rd }
-    ensures file { M.file machine.new ≡ M.file machine.old }
+    ensures stands { (octets : List ℕ) (rd : Readings) → content (S.files shelf.old) (S.opened shelf.old) (M.fixed machine.old).file ≡ Some octets → M.stands machine.old octets rd → M.stands machine.new octets rd }
+    ensures fixed { M.fixed machine.new ≡ M.fixed machine.old }
     ensures files { S.files shelf.new ≡ S.files shelf.old }
     ensures opened { S.opened shelf.new ≡ S.opened shelf.old }
 {

@@ -20,7 +20,7 @@ use Rattle.mc_demux.specs.Selecting.{choice_of, refusal_of}
 use Rattle.mc_demux.specs.Shows.{goal_of, is_finish, is_idle_job}
 use Rattle.mc_demux.specs.State.{DemuxState, next_in}
 use Rattle.mc_script.specs.Plays.{Readings, readings}
-use Rattle.mc_lines.specs.Calls.{Ahead, Jobs}
+use Rattle.mc_lines.specs.Calls.{Ahead, Fixed, Jobs}
 use Rattle.mc_world.specs.declared.brought.Brought.{Brought}
 use Rattle.mc_world.specs.declared.driver.Driver.{Driver}
 use Rattle.mc_world.specs.Driving.{Drives}
@@ -55,6 +55,9 @@ ahead_of d = record {
 
 abbrev pub jobs_of : DemuxState → Jobs
 jobs_of d = record { number = d.number; kept = d.kept }
+
+abbrev pub fixed_of : Driver → Fixed
+fixed_of d = record { file = d.cursor.file.0; limits = d.demux.cache.limits }
 
 -- all of it stands for the film of these octets, whose readings these are
 pub record Stands (d : Driver) (octets : List ℕ) (rd : Readings) : Type 0 where

@@ -1,5 +1,5 @@
 //! A driver as a machine on which a script is played.
-ghost use Rattle.mc_world.specs.Machines.{Stands, ahead_of, jobs_of};
+ghost use Rattle.mc_world.specs.Machines.{Stands, ahead_of, fixed_of, jobs_of};
 ghost use Rattle.mc_world.proofs.Ruling.{driver_rests, driver_shows};
 
 use crate::driver::Driver;
@@ -17,7 +17,7 @@ impl Machine for Driver {
 
     ghost ahead = { λ d. ahead_of d.demux };
 
-    ghost file = { λ d. d.cursor.file.0 };
+    ghost fixed = { λ d. fixed_of d };
 
     ghost stands = { λ d octets rd. Stands d octets rd };
 

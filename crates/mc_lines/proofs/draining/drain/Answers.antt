@@ -12,7 +12,7 @@ pub loop-left-init : goal.loop-left-init
 loop-left-init g c = record {
   played = λ octets rd told s. (s, start_on rd (g.M.Machine.ahead c.args.machine.now) _ _ (g.met.M.Machine.shows_film c.args.machine.now octets rd s) c.selection-left.ensures);
   grows = grows_none _ _ _ _ (omega arith) refl;
-  file = refl;
+  fixed = refl;
   files = refl;
   opened = refl;
 }
@@ -31,7 +31,7 @@ loop-left-preserved-in_ok-read_one-in-Give g c =
           let one = c.in_ok-read_one-in-Give.ensures.film octets rd now.0 in
           (stands, gave rd _ _ _ c.loop-left.left kind track one.0 now.1 next one.1 one.2);
       grows = grows_on _ _ _ _ _ _ inv.grows (one_grows (g.M.Machine.ahead c.loop-left.machine) (reader kind) track _ _ _ c.read_one.result c.read_one.ensures.reads);
-      file = c.read_one.ensures.file ∙ inv.file;
+      fixed = c.read_one.ensures.fixed ∙ inv.fixed;
       files = inv.files;
       opened = inv.opened;
     }
@@ -50,7 +50,7 @@ loop-left-preserved-in-Tell g c =
           let one = c.in_ok-read_one-in-Tell.ensures.film octets rd now.0 in
           (stands, rw c.without-left.ensures (told rd _ _ _ c.loop-left.left kind track one.0 now.1 next one.1));
       grows = grows_on _ _ _ _ _ _ inv.grows (one_grows (g.M.Machine.ahead c.loop-left.machine) (reader kind) track _ _ _ c.read_one-in-Tell.result c.read_one-in-Tell.ensures.reads);
-      file = c.read_one-in-Tell.ensures.file ∙ inv.file;
+      fixed = c.read_one-in-Tell.ensures.fixed ∙ inv.fixed;
       files = inv.files;
       opened = inv.opened;
     }
@@ -70,12 +70,12 @@ loop-left-preserved g c =
       played = λ octets rd said s.
           let now = inv.played octets rd said s in
           let film = g.met.M.Machine.shows_film c.loop-left.machine octets rd now.0 in
-          let here = told_still _ _ _ _ _ _ octets inv.files inv.opened inv.file said in
+          let here = told_still _ _ _ _ _ _ octets inv.files inv.opened inv.fixed said in
           let turn = turns_on rd (g.M.Machine.ahead c.loop-left.machine) _ _ _ _ (Ok true) film (rw c.if-not-branch.false at c.in_ok-turn-in-Turn.ensures.turns) in
           let next = next_on rd (g.M.Machine.ahead c.loop-left.machine) _ c.loop-left.left nexts.Turn film c.in-Turn.ensures in
           (c.turn.ensures.stands octets rd here now.0, turned rd _ _ _ _ _ c.loop-left.left now.1 next turn);
       grows = grows_on _ _ _ _ _ _ inv.grows (turn_grows (g.M.Machine.ahead c.loop-left.machine) _ _ _ _ c.turn.result c.turn.ensures.later c.turn.ensures.turns);
-      file = c.turn.ensures.file ∙ inv.file;
+      fixed = c.turn.ensures.fixed ∙ inv.fixed;
       files = c.turn.ensures.files ∙ inv.files;
       opened = c.turn.ensures.opened ∙ inv.opened;
     }

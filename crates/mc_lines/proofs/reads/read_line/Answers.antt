@@ -8,7 +8,7 @@ use Rattle.mc_lines.proofs.Growing.{orders_none, orders_on}
 use Rattle.mc_lines.proofs.reads.read_line.Goals as goal
 
 pub loop-init : goal.loop-init
-loop-init g c = record { played = λ octets rd s. (s, start rd c.args.kind c.args.count _); orders = orders_none _ _ _ _ refl refl; file = refl }
+loop-init g c = record { played = λ octets rd s. (s, start rd c.args.kind c.args.count _); orders = orders_none _ _ _ _ refl refl; fixed = refl }
 
 pub returns-then-not-is_packet-clause-line : goal.returns-then-not-is_packet-clause-line
 returns-then-not-is_packet-clause-line g c octets rd s =
@@ -35,5 +35,5 @@ loop-preserved g c = record {
       let read = read_on rd _ _ (reader c.args.kind) c.in-Some.track _ _ (Ok c.in-Ok.reading) old_film c.reader-by.ensures c.in-Ok.ensures.reads in
       (stands, next rd c.args.kind c.args.count _ _ _ c.loop.counter c.in-Some.track c.in-Ok.reading inv.1 track c.loop-test.true read (c.in-Ok.ensures.film octets rd inv.0) (sym c.if-not-is_packet.ensures));
   orders = orders_on _ _ _ _ _ _ c.loop.invariant.orders (read_orders (g.M.Machine.ahead c.loop.machine) _ _ _ _ _ _ c.read.result c.read.ensures.jobs c.read.ensures.reads) c.read.ensures.jobs;
-  file = c.read.ensures.file ∙ c.loop.invariant.file;
+  fixed = c.read.ensures.fixed ∙ c.loop.invariant.fixed;
 }

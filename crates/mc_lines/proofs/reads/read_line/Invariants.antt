@@ -9,5 +9,5 @@ invariant-loop g l = record {
   played : (octets : List ℕ) (rd : Readings) → g.M.Machine.stands l.fn.machine octets rd
       → g.M.Machine.stands l.machine octets rd × Given rd l.fn.kind l.count (g.M.Machine.journal l.fn.machine) (g.M.Machine.journal l.machine) l.counter;
   orders : Orders (g.M.Machine.journal l.fn.machine) (g.M.Machine.journal l.machine) (g.M.Machine.jobs l.fn.machine) (g.M.Machine.jobs l.machine);
-  file : g.M.Machine.file l.machine ≡ g.M.Machine.file l.fn.machine;
+  fixed : g.M.Machine.fixed l.machine ≡ g.M.Machine.fixed l.fn.machine;
 }

@@ -8,10 +8,10 @@ use Rattle.mc_lines.proofs.turns.demux_line.Given as goal
 
 abbrev pub invariant-loop : goal.invariant-loop
 invariant-loop g l = record {
-  played : (octets : List ℕ) (rd : Readings) → content (g.S.Shelf.files l.fn.shelf) (g.S.Shelf.opened l.fn.shelf) (g.M.Machine.file l.fn.machine) ≡ Some octets → g.M.Machine.stands l.fn.machine octets rd
+  played : (octets : List ℕ) (rd : Readings) → content (g.S.Shelf.files l.fn.shelf) (g.S.Shelf.opened l.fn.shelf) (g.M.Machine.fixed l.fn.machine).file ≡ Some octets → g.M.Machine.stands l.fn.machine octets rd
       → g.M.Machine.stands l.machine octets rd × Turned rd l.fn.count (g.M.Machine.journal l.fn.machine) (g.M.Machine.journal l.machine) l.counter;
   grows : Grows (g.S.Shelf.faults l.fn.shelf) (g.S.Shelf.faults l.shelf) (g.M.Machine.journal l.fn.machine) (g.M.Machine.journal l.machine);
-  file : g.M.Machine.file l.machine ≡ g.M.Machine.file l.fn.machine;
+  fixed : g.M.Machine.fixed l.machine ≡ g.M.Machine.fixed l.fn.machine;
   files : g.S.Shelf.files l.shelf ≡ g.S.Shelf.files l.fn.shelf;
   opened : g.S.Shelf.opened l.shelf ≡ g.S.Shelf.opened l.fn.shelf;
 }

@@ -3,6 +3,9 @@ use Rattle.mc_demux.specs.Keeping.{IsAsBefore}
 use Rattle.mc_demux.specs.Outcomes.{StartsFit}
 use Rattle.mc_demux.specs.Records.{HasRoom}
 use Rattle.mc_demux.proofs.Takings.{before_both, find_keeps, found_on, roomy_stands, same_kept}
+use Rattle.mc_demux.specs.Marks.{marks_of}
+use Rattle.mc_demux.proofs.Among.{among_more}
+use Rattle.mc_demux.proofs.Remarked.{as_before_among, before_more, starts_among}
 use Rattle.mc_demux.proofs.demux.Demux.found.Goals as goal
 
 pub returns-clause-value : goal.returns-clause-value
@@ -35,3 +38,22 @@ returns-in_err-take_starts-clause-value c =
     let b : IsAsBefore c.args.self.now c.take_starts.new.self =
     before_both c.args.self.now c.make_room_to_find.new.self c.take_starts.new.self c.in_ok-make_room_to_find.ensures.same c.in_err-take_starts.ensures.err in
     search rules
+
+pub returns-then-len-ge-FULL-clause-marks : goal.returns-then-len-ge-FULL-clause-marks
+returns-then-len-ge-FULL-clause-marks c = among_more c.args.starts.mark c.args.self.now.cache
+
+pub returns-then-no-self-clause-marks : goal.returns-then-no-self-clause-marks
+returns-then-no-self-clause-marks c = among_more c.args.starts.mark c.args.self.now.cache
+
+pub returns-in_err-make_room_to_find-clause-marks : goal.returns-in_err-make_room_to_find-clause-marks
+returns-in_err-make_room_to_find-clause-marks c = before_more c.args.starts.mark c.args.self.now c.make_room_to_find.new.self c.in_err-make_room_to_find.ensures.same
+
+pub returns-in_err-take_starts-clause-marks : goal.returns-in_err-take_starts-clause-marks
+returns-in_err-take_starts-clause-marks c =
+    before_more c.args.starts.mark c.args.self.now c.take_starts.new.self
+    (before_both c.args.self.now c.make_room_to_find.new.self c.take_starts.new.self c.in_ok-make_room_to_find.ensures.same c.in_err-take_starts.ensures.err)
+
+pub returns-clause-marks : goal.returns-clause-marks
+returns-clause-marks c =
+    starts_among c.args.starts c.make_room_to_find.new.self c.take_starts.new.self (marks_of c.args.self.now.cache) c.in_ok-take_starts.ensures.ok
+    (as_before_among c.args.self.now c.make_room_to_find.new.self c.in_ok-make_room_to_find.ensures.same)

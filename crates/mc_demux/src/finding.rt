@@ -1,5 +1,5 @@
 //! Starts that were found.
-ghost use Rattle.std.specs.Prelude.{◌≡◌, ◌≤◌, ◌+◌, true, IfNone, IfSome, IsSomeAnd, OnOk, OnErr, vec_len, vec_capacity, ◌∷◌};
+ghost use Rattle.std.specs.Prelude.{◌≡◌, ◌≤◌, ◌+◌, ◌∷◌, true, IfNone, IfSome, IsSomeAnd, OnOk, OnErr, vec_len, vec_capacity};
 ghost use Rattle.mc_journal.specs.Choices.{is_distinct};
 ghost use Rattle.mc_journal.specs.Films.{Film};
 ghost use Rattle.mc_range.specs.Range.{AtMark};
@@ -9,8 +9,8 @@ ghost use Rattle.mc_cache.specs.Rooms.{HasRoomToJoin, IsPrepared};
 ghost use Rattle.mc_demux.specs.Demuxers.{IsDemux};
 ghost use Rattle.mc_demux.specs.Film.{AreStartsOf, StandsFor};
 ghost use Rattle.mc_demux.specs.Finding.{AddsOne, AddsTracks, Begins, BeginsRange, IsReadyToBegin, MayAddAll, MayAddOne, TakesStarts};
-ghost use Rattle.mc_demux.specs.Marks.{AreAmong, marks_of};
 ghost use Rattle.mc_demux.specs.Keeping.{IsAsBefore};
+ghost use Rattle.mc_demux.specs.Marks.{AreAmong, marks_of};
 ghost use Rattle.mc_demux.specs.Outcomes.{BringsStarts, Finds, StartsFit, head_at, heads_at};
 
 use crate::answer::{DemuxError, Taken};

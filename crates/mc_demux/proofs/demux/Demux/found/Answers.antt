@@ -3,9 +3,9 @@ use Rattle.mc_demux.specs.Keeping.{IsAsBefore}
 use Rattle.mc_demux.specs.Outcomes.{StartsFit}
 use Rattle.mc_demux.specs.Records.{HasRoom}
 use Rattle.mc_demux.proofs.Takings.{before_both, find_keeps, found_on, roomy_stands, same_kept}
+use Rattle.mc_demux.specs.Marks.{marks_of}
 use Rattle.mc_demux.proofs.Among.{among_more}
 use Rattle.mc_demux.proofs.Remarked.{as_before_among, before_more, starts_among}
-use Rattle.mc_demux.specs.Marks.{marks_of}
 use Rattle.mc_demux.proofs.demux.Demux.found.Goals as goal
 
 pub returns-clause-value : goal.returns-clause-value

@@ -1,6 +1,7 @@
 -- Starts that are taken leave a demuxer.
 use Rattle.std.proofs.Common.{◌≡◌, ℕ, ◌+◌, ◌≤◌, true, false, Option, Some, None, List, [], ◌∷◌, ◌++◌, refl, ap, sym, subst, ◌∙◌, arith, length-append}
 use Rattle.std.specs.Prelude.{is_some, IfNone, IfSome, IsSomeAnd}
+use Rattle.std.proofs.lemmas.List.{append-nil}
 use Rattle.mc_packet.specs.declared.choice.Choice.{Choice}
 use Rattle.mc_packet.specs.declared.choice.Starts.{Starts}
 use Rattle.mc_packet.specs.declared.cache.Heads.{Heads}
@@ -135,10 +136,6 @@ pub record Begun (d : DemuxState) (starts : Starts) (c : CacheState) (j : List D
   pub has : HasBegun d.set (heads_at starts d.heads) d.cache c
   pub wrote : WritesExtras 5 (d.journal ++ Found 5 starts ∷ []) j
 
-append_none : (xs : List DemuxRecord) → xs ≡ xs ++ []
-append_none [] = refl
-append_none (x ∷ xs) = ap (λ ys. x ∷ ys) (append_none xs)
-
 begun_by : (d : DemuxState) (starts : Starts) (o : Option RangeState) (c : CacheState) (j : List DemuxRecord) → IsDemux d → IsSomeAnd d.kept (StartsFit starts) → d.cache.current ≡ o → IsCache c
     → BeginsBy d.set d.waiting starts o d.cache d.journal c j → Begun d starts c j
 begun_by d starts None c j i k e ic b = record {
@@ -149,7 +146,7 @@ begun_by d starts (Some r) c j i k e ic b =
     let a = is_adding d starts r i k e in
     record {
       has = add_begins d.set d.waiting d.heads starts r d.cache c ic e a.range a.own i.waits a.queued a.heads a.fit b.0;
-      wrote = record { extras = []; grows = b.1 ∙ append_none (d.journal ++ Found 5 starts ∷ []); are = tt };
+      wrote = record { extras = []; grows = b.1 ∙ sym (append-nil (d.journal ++ Found 5 starts ∷ [])); are = tt };
     }
 
 pub begun : (d : DemuxState) (starts : Starts) (c : CacheState) (j : List DemuxRecord) → IsDemux d → IsSomeAnd d.kept (StartsFit starts) → IsCache c

@@ -4,7 +4,7 @@ use Rattle.std.specs.Prelude.{is_some, map, nat_le, reverse}
 use Rattle.std.specs.List.{filter, AllByRecursion}
 use Rattle.std.specs.Option.{option_map}
 use Rattle.std.proofs.lemmas.Bool.{cases_Bool}
-use Rattle.std.proofs.lemmas.List.{map-append}
+use Rattle.std.proofs.lemmas.List.{append-nil, map-append}
 use Rattle.mc_packet.specs.declared.packet.Packet.{Packet}
 use Rattle.mc_packet.specs.declared.choice.Choice.{Choice}
 use Rattle.mc_packet.specs.declared.cache.Heads.{Heads}
@@ -182,10 +182,6 @@ many_step film limits set current others heads seeking waiting switch failure en
       ended_are = f.ended_are;
     }
 
-append_none : (xs : List DemuxRecord) → xs ≡ xs ++ []
-append_none [] = refl
-append_none (x ∷ xs) = ap (λ ys. x ∷ ys) (append_none xs)
-
 next_telling : (film : Film) (limits : Limits) (set : Choice) (current : Option RangeState) (others : List RangeState) (heads : Heads)
     (seeking : Option Target) (waiting : Choice) (switch : Switch) (failure : Option Failure) (ended : Choice) (j : List DemuxRecord) (by n : ℕ) (d : Removal) (drops : List Removal)
     → IsTelling film limits set current others heads seeking waiting switch failure ended j (d ∷ drops) → d.cause ≡ TooMany n
@@ -206,7 +202,7 @@ pub all_told : (film : Film) (limits : Limits) (set : Choice) (current : Option 
     → IsTelling film limits set current others heads seeking waiting switch failure ended j drops → AllByRecursion (Because (TooMany n)) drops
     → IsTelling film limits set current others heads seeking waiting switch failure ended (with_drops by j drops) []
 all_told film limits set current others heads seeking waiting switch failure ended j by n [] t a =
-    subst (λ (x : List DemuxRecord). IsTelling film limits set current others heads seeking waiting switch failure ended x []) (append_none j) t
+    subst (λ (x : List DemuxRecord). IsTelling film limits set current others heads seeking waiting switch failure ended x []) (sym (append-nil j)) t
 all_told film limits set current others heads seeking waiting switch failure ended j by n (d ∷ drops) t a =
     let next = next_telling film limits set current others heads seeking waiting switch failure ended j by n d drops t a.0 in
     let rest = all_told film limits set current others heads seeking waiting switch failure ended (j ++ Dropped by d ∷ []) by n drops next a.1 in

@@ -2,6 +2,7 @@
 use Rattle.std.proofs.Common.{◌≡◌, ℕ, true, false, Option, Some, None, List, [], ◌∷◌, ◌++◌, refl, ap, sym, subst, ◌∙◌}
 use Rattle.std.specs.Prelude.{is_some, IfSome, map, reverse}
 use Rattle.std.specs.List.{AllByRecursion}
+use Rattle.std.proofs.lemmas.List.{append-nil}
 use Rattle.mc_packet.specs.declared.choice.Choice.{Choice}
 use Rattle.mc_packet.specs.declared.cache.Heads.{Heads}
 use Rattle.mc_packet.specs.declared.cache.Limits.{Limits}
@@ -81,10 +82,6 @@ no_current : (film : Film) (limits : Limits) (set : Choice) (rs : List RangeStat
 no_current film limits set rs heads seeking waiting switch failure ended h f =
     ap (λ (o : Option Range). touched (selected h) (stand film.packets h).others o) f.current_is
 
-append_none : (xs : List DemuxRecord) → xs ++ [] ≡ xs
-append_none [] = refl
-append_none (x ∷ xs) = ap (λ ys. x ∷ ys) (append_none xs)
-
 -- what the joins leave, of the ranges alone
 record IsAtRest (film : Film) (limits : Limits) (set : Choice) (n : Option RangeState) (ns : List RangeState) (heads : Heads)
     (seeking : Option Target) (waiting : Choice) (switch : Switch) (failure : Option Failure) (ended : Choice) (j : List DemuxRecord) : Type 0 where
@@ -100,7 +97,7 @@ joins_rest : (film : Film) (limits : Limits) (set : Choice) (o : Option RangeSta
 joins_rest film limits set None rs n ns heads seeking waiting switch failure ended j by k drops i a e f now told js =
     let none = no_current film limits set rs heads seeking waiting switch failure ended (reverse j) f in
     let rest : IsAtRest film limits set None rs heads seeking waiting switch failure ended (with_drops by (with_joins by j 0) []) =
-    subst (λ (x : List DemuxRecord). IsAtRest film limits set None rs heads seeking waiting switch failure ended x) (sym (append_none j))
+    subst (λ (x : List DemuxRecord). IsAtRest film limits set None rs heads seeking waiting switch failure ended x) (sym (append-nil j))
     (record { fits = f; still = still_now film.packets (reverse j) now told none }) in
     let p = js.0 in
     let q = js.1 in
@@ -114,7 +111,7 @@ joins_rest film limits set (Some r) rs (Some q) ns heads seeking waiting switch 
     let w = joins_fit film limits set r rs q ns heads seeking waiting switch failure ended j by k drops (record { range = i; film = record { film = f.held; set_is = e.0 } }) a all f now told js.0 in
     let none = no_joins film limits set q ns heads seeking waiting switch failure ended (with_joins by j k) drops w js.1 in
     let same : with_joins by j k ≡ with_drops by (with_joins by j k) drops =
-    sym (append_none (with_joins by j k)) ∙ sym (ap (λ (ds : List Removal). with_drops by (with_joins by j k) ds) w.none_told) in
+    sym (append-nil (with_joins by j k)) ∙ sym (ap (λ (ds : List Removal). with_drops by (with_joins by j k) ds) w.none_told) in
     subst (λ (x : List DemuxRecord). IsAtRest film limits set (Some q) ns heads seeking waiting switch failure ended x) same
     (record { fits = w.fits; still = still_now ps (reverse (with_joins by j k)) w.now w.told none })
 

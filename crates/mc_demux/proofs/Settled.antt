@@ -2,6 +2,7 @@
 use Rattle.std.proofs.Common.{◌≡◌, ℕ, zero, suc, ◌≤◌, Option, List, [], ◌∷◌, ◌++◌, refl, ap, sym, subst, ◌∙◌, arith, length, length-append, append_assoc}
 use Rattle.std.specs.Prelude.{map}
 use Rattle.std.specs.List.{AllByRecursion}
+use Rattle.std.proofs.lemmas.List.{append-nil}
 use Rattle.mc_packet.specs.declared.choice.Choice.{Choice}
 use Rattle.mc_packet.specs.declared.cache.Heads.{Heads}
 use Rattle.mc_journal.specs.declared.record.DemuxRecord.{DemuxRecord}
@@ -28,10 +29,6 @@ all_two : (P : DemuxRecord → Type 0) (xs ys : List DemuxRecord) → AllByRecur
 all_two P [] ys h k = k
 all_two P (x ∷ xs) ys h k = (h.0, all_two P xs ys h.1 k)
 
-append_none : (xs : List DemuxRecord) → xs ≡ xs ++ []
-append_none [] = refl
-append_none (x ∷ xs) = ap (λ ys. x ∷ ys) (append_none xs)
-
 pub extras_both : (by : ℕ) (a b c : List DemuxRecord) → WritesExtras by a b → WritesExtras by b c → WritesExtras by a c
 extras_both by a b c x y = record {
   extras = x.extras ++ y.extras;
@@ -40,7 +37,7 @@ extras_both by a b c x y = record {
 }
 
 joins_extras : (by : ℕ) (j : List DemuxRecord) (n : ℕ) → WritesExtras by j (with_joins by j n)
-joins_extras by j zero = record { extras = []; grows = append_none j; are = tt }
+joins_extras by j zero = record { extras = []; grows = sym (append-nil j); are = tt }
 joins_extras by j (suc n) =
     extras_both by j (with_joins by j n) (with_joins by j n ++ Joined by ∷ []) (joins_extras by j n) (record { extras = Joined by ∷ []; grows = refl; are = (refl, tt) })
 

@@ -2,14 +2,14 @@
 use Rattle.std.proofs.Common.{◌≡◌, ℕ, Bool, true, false, ◌&&◌, ◌||◌, ◌==◌, not, Option, Some, None, refl, ap, sym, subst, ◌∙◌, inl, inr}
 use Rattle.std.specs.Prelude.{if◌then◌else◌, is_some, IfSome}
 use Rattle.std.specs.Option.{option_map}
-use Rattle.std.proofs.lemmas.Bool.{cases_Bool, eqb-true, eq-eqb, and_parts, or_parts}
+use Rattle.std.proofs.lemmas.Bool.{cases_Bool, eqb-true, eq-eqb, and_parts}
 use Rattle.mc_packet.specs.declared.packet.Pos.{Pos}
 use Rattle.mc_packet.specs.declared.choice.Choice.{Choice}
 use Rattle.mc_packet.specs.declared.cache.Heads.{Heads}
-use Rattle.mc_journal.specs.Choices.{or_else, is_track, has, is_empty, is_other, kept_of, kept_track, nothing}
+use Rattle.mc_journal.specs.Choices.{is_track, has, is_empty, is_other, kept_of, kept_track, nothing}
 use Rattle.mc_journal.specs.Ranges.{Range}
 use Rattle.mc_queue.specs.Queue.{QueueState}
-use Rattle.mc_range.specs.Range.{RangeState, IsRange, as_range, queue_of, span_of}
+use Rattle.mc_range.specs.Range.{RangeState, IsRange, queue_of, span_of}
 use Rattle.mc_range.specs.Filmed.{same_kinds}
 use Rattle.mc_range.specs.Tracks.{retracked}
 use Rattle.mc_range.proofs.Retracked.{kept_ranges}

@@ -1,10 +1,9 @@
 -- How much is left, and how much is told, when other tracks are selected.
-use Rattle.std.proofs.Common.{◌≡◌, ℕ, ◌+◌, ◌*◌, ◌≤◌, ◌<◌, Bool, true, false, ◌||◌, not, Option, Some, None, List, [], ◌∷◌, ◌++◌, ℤ, refl, ap, sym, subst, ◌∙◌, inl, inr, arith, length, length-append}
-use Rattle.std.specs.Prelude.{if◌then◌else◌, nat_le, map}
+use Rattle.std.proofs.Common.{◌≡◌, ℕ, ◌+◌, ◌*◌, ◌≤◌, Bool, true, false, ◌||◌, not, Option, Some, None, List, [], ◌∷◌, ◌++◌, ℤ, refl, ap, sym, subst, ◌∙◌, inl, inr, arith, length, length-append}
+use Rattle.std.specs.Prelude.{if◌then◌else◌, nat_le}
 use Rattle.std.specs.List.{AllByRecursion}
 use Rattle.std.specs.Option.{option_map}
 use Rattle.std.proofs.lemmas.Bool.{cases_Bool}
-use Rattle.std.proofs.lemmas.List.{length-map}
 use Rattle.mc_packet.specs.declared.packet.Packet.{Packet}
 use Rattle.mc_packet.specs.declared.packet.Pos.{Pos}
 use Rattle.mc_packet.specs.declared.choice.Choice.{Choice}
@@ -17,13 +16,13 @@ use Rattle.mc_journal.specs.declared.record.Removal.{Removal}
 use Rattle.mc_journal.specs.Choices.{has, is_empty, is_known, is_track, lead_of}
 use Rattle.mc_queue.specs.Queue.{QueueState}
 use Rattle.mc_range.specs.declared.queues.Queues.{Queues}
-use Rattle.mc_range.specs.Range.{RangeState, IsRange, count}
+use Rattle.mc_range.specs.Range.{RangeState, count}
 use Rattle.mc_range.specs.Filmed.{same_kinds}
 use Rattle.mc_range.specs.Tracks.{kept_queue, retracked}
 use Rattle.mc_cache.specs.Cache.{CacheState, IsCache, count_in, count_of, in_front, ranges_of, weight_in, weight_of}
 use Rattle.mc_cache.specs.Changing.{IsRetracked}
 use Rattle.mc_cache.specs.Pruning.{back_of}
-use Rattle.mc_cache.specs.Removals.{lost_queue, lost_queues, put_all, put_in, removal_if, removal_in, removals_in, removals_lost, removals_of_all}
+use Rattle.mc_cache.specs.Removals.{lost_queues, put_all, put_in, removal_if, removal_in, removals_in, removals_lost, removals_of_all}
 use Rattle.mc_cache.proofs.Reselected.{retracked_weighs}
 use Rattle.mc_demux.specs.declared.waiting.Target.{Target}
 use Rattle.mc_demux.specs.State.{DemuxState}

@@ -1,5 +1,5 @@
 -- A selection leaves a demuxer that stands for the film.
-use Rattle.std.proofs.Common.{◌≡◌, ℕ, ℤ, Bool, true, false, ◌&&◌, ◌||◌, not, Option, Some, None, List, [], ◌∷◌, ◌++◌, refl, ap, sym, subst, ◌∙◌, inl, inr, append_assoc}
+use Rattle.std.proofs.Common.{◌≡◌, ℕ, ℤ, Bool, true, false, not, Option, Some, None, List, [], ◌∷◌, ◌++◌, refl, ap, sym, subst, ◌∙◌, inl, inr, append_assoc}
 use Rattle.std.specs.Prelude.{map, if◌then◌else◌, is_some, find, IfSome, IsSomeAnd, nat_le, reverse}
 use Rattle.std.specs.List.{AllByRecursion}
 use Rattle.std.specs.Option.{option_map}
@@ -9,7 +9,7 @@ use Rattle.mc_packet.specs.declared.packet.Packet.{Packet}
 use Rattle.mc_packet.specs.declared.packet.Pos.{Pos}
 use Rattle.mc_packet.specs.declared.choice.Choice.{Choice}
 use Rattle.mc_packet.specs.declared.choice.Why.{Why}
-use Rattle.mc_packet.specs.declared.choice.Why.TheVariants.{NoTrack, UnknownTrack, Unsupported, TwoOfKind}
+use Rattle.mc_packet.specs.declared.choice.Why.TheVariants.{UnknownTrack, Unsupported, TwoOfKind}
 use Rattle.mc_packet.specs.declared.cache.Heads.{Heads}
 use Rattle.mc_packet.specs.declared.cache.Limits.{Limits}
 use Rattle.mc_tracks.specs.declared.track.Track.{Track}
@@ -20,24 +20,21 @@ use Rattle.mc_journal.specs.declared.record.Removal.{Removal}
 use Rattle.mc_journal.specs.declared.record.Sought.TheVariants.{Sent}
 use Rattle.mc_journal.specs.declared.record.DemuxRecord.{DemuxRecord}
 use Rattle.mc_journal.specs.declared.record.DemuxRecord.TheVariants.{Sought, Switched}
-use Rattle.mc_journal.specs.Told.{Told}
 use Rattle.mc_journal.specs.Choices.{has, is_empty, is_known, lead_of, nothing, or_else}
 use Rattle.mc_journal.specs.Films.{Film, rank}
-use Rattle.mc_journal.specs.Ranges.{Range}
 use Rattle.mc_journal.specs.Readings.{selected, pending}
 use Rattle.mc_journal.specs.Stands.{Stand, stand, switched}
 use Rattle.mc_journal.specs.Views.{head}
 use Rattle.mc_journal.specs.Allowed.{added_by}
-use Rattle.mc_journal.specs.Used.{Due, TellsWhy, due, due_switch, is_still, onto}
+use Rattle.mc_journal.specs.Used.{TellsWhy, due_switch, is_still, onto}
 use Rattle.mc_queue.specs.Queue.{QueueState}
 use Rattle.mc_range.specs.declared.queues.Queues.{Queues}
-use Rattle.mc_range.specs.Range.{RangeState, IsRange, as_range, queue_of}
+use Rattle.mc_range.specs.Range.{RangeState, IsRange, queue_of}
 use Rattle.mc_range.specs.Serving.{HoldsFilm}
 use Rattle.mc_range.specs.Filmed.{same_kinds}
 use Rattle.mc_range.specs.Tracks.{retracked}
-use Rattle.mc_cache.specs.Cache.{CacheState, IsCache, stand_of}
+use Rattle.mc_cache.specs.Cache.{CacheState, stand_of}
 use Rattle.mc_cache.specs.Changing.{IsRetracked}
-use Rattle.mc_cache.specs.Filmed.{HoldsAll}
 use Rattle.mc_cache.specs.Placed.{due_of}
 use Rattle.mc_cache.specs.Removals.{lost_queues, put_all, put_in, removal_if, removal_in, removals_in, removals_lost, removals_of_all}
 use Rattle.mc_cache.proofs.FilmTold.{retracked_told}
@@ -54,7 +51,7 @@ use Rattle.mc_demux.proofs.Kept.{both_true, owned_queue, same_head, stays}
 use Rattle.mc_demux.proofs.Known.{known_alike, known_same}
 use Rattle.mc_demux.proofs.Lost.{left_placed, left_sets}
 use Rattle.mc_demux.proofs.Resting.{own_set}
-use Rattle.mc_demux.proofs.Switching.{AreDue, IsDone, added_same, drops_step, resent_step, switched_step}
+use Rattle.mc_demux.proofs.Switching.{AreDue, added_same, drops_step, resent_step, switched_step}
 use Rattle.mc_demux.proofs.Trimmed.{trimmed}
 use Rattle.mc_demux.proofs.Trims.{trims_keep}
 use Rattle.mc_demux.proofs.Turned.{film_one, holds_all, stand_is}

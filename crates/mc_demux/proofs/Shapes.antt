@@ -37,8 +37,7 @@ there (Some r) mark h = ap (λ (m : Mark). Some m) h.0
 
 pub resume_fits : (d : DemuxState) (asked n : ℕ) (mark : Mark) (part : Chunk) → IsDemux d → d.kept ≡ Some (Resume n mark) → part.from ≡ mark → HasShape part → BringsPart asked part d
 resume_fits d asked n mark part i k e s = λ same.
-    let job = subst (λ (o : Option Job). IfSome o (KeepsJob d)) k i.kept in
-    (
+    let job = subst (λ (o : Option Job). IfSome o (KeepsJob d)) k i.kept in (
       subst (λ (o : Option Job). IsSomeAnd o (PartFits part)) (sym k) e,
       subst (λ (m : Mark). mark_in d.cache.current ≡ Some m) (sym e) (there d.cache.current mark job.is.1),
       s,

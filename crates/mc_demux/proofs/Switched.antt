@@ -1,6 +1,6 @@
 -- What a selection leaves, and its records.
-use Rattle.std.proofs.Common.{◌≡◌, ℕ, Bool, true, false, ◌&&◌, Option, Some, None, List, [], ◌∷◌, ◌++◌, ℤ, refl, ap, sym, subst, ◌∙◌, append_assoc}
-use Rattle.std.specs.Prelude.{map, nat_eq}
+use Rattle.std.proofs.Common.{◌≡◌, ℕ, true, false, ◌&&◌, Option, Some, None, List, [], ◌∷◌, ◌++◌, ℤ, refl, ap, sym, subst, ◌∙◌, append_assoc}
+use Rattle.std.specs.Prelude.{nat_eq}
 use Rattle.std.specs.Option.{option_eq}
 use Rattle.std.proofs.lemmas.Bool.{eq-eqb}
 use Rattle.std.specs.List.{AllByRecursion}

@@ -1,11 +1,9 @@
 -- A selection and the drops that it tells leave a demuxer that fits the film.
-use Rattle.std.proofs.Common.{◌≡◌, ℕ, ℤ, Bool, true, false, ◌&&◌, ◌||◌, not, Option, Some, None, List, [], ◌∷◌, ◌++◌, drop, refl, ap, sym, subst, ◌∙◌, inl, inr}
-use Rattle.std.specs.Prelude.{map, if◌then◌else◌, is_some, IfSome, nat_le}
+use Rattle.std.proofs.Common.{◌≡◌, ℕ, ℤ, Bool, true, false, ◌&&◌, ◌||◌, not, Option, Some, None, List, [], ◌∷◌, refl, ap, sym, subst, ◌∙◌}
+use Rattle.std.specs.Prelude.{map, if◌then◌else◌, IfSome}
 use Rattle.std.specs.List.{AllByRecursion, filter}
 use Rattle.std.specs.Bool.{MatchBool}
 use Rattle.std.specs.Option.{option_map, option_map_or}
-use Rattle.std.proofs.lemmas.Bool.{cases_Bool}
-use Rattle.mc_packet.specs.declared.packet.Packet.{Packet}
 use Rattle.mc_packet.specs.declared.packet.Pos.{Pos}
 use Rattle.mc_packet.specs.declared.choice.Choice.{Choice}
 use Rattle.mc_packet.specs.declared.cache.Heads.{Heads}
@@ -21,7 +19,7 @@ use Rattle.mc_journal.specs.Choices.{has, is_empty, is_known, kept_of, kept_trac
 use Rattle.mc_journal.specs.Films.{Film, rank}
 use Rattle.mc_journal.specs.Ranges.{Range}
 use Rattle.mc_journal.specs.Readings.{selected, follows, target, direction, switcher, pending, waits}
-use Rattle.mc_journal.specs.Stands.{Stand, stand, holds_any, left, ranges_of, switched, tidied}
+use Rattle.mc_journal.specs.Stands.{stand, holds_any, switched}
 use Rattle.mc_journal.specs.Views.{head, was_ended}
 use Rattle.mc_journal.specs.Allowed.{added_by, how_by, is_added, is_served, joinable}
 use Rattle.mc_journal.specs.Used.{Due, IsDue, are_told, due, is_begun, is_still, joins_now, is_too_many, onto}

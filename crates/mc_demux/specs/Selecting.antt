@@ -1,5 +1,5 @@
 -- What a selection answers and leaves.
-use Rattle.std.specs.Prelude.{◌≡◌, ℕ, ◌+◌, ◌==◌, Bool, true, false, ◌&&◌, ◌||◌, not, if◌then◌else◌, List, [], ◌∷◌, ◌++◌, map, Option, Some, None, Result, Ok, Err, ℤ, is_some}
+use Rattle.std.specs.Prelude.{◌≡◌, ℕ, ◌+◌, ◌==◌, Bool, false, ◌&&◌, ◌||◌, not, if◌then◌else◌, List, [], ◌∷◌, ◌++◌, map, Option, Some, None, Result, Ok, Err, ℤ, is_some}
 use Rattle.std.specs.List.{find, list_any}
 use Rattle.std.specs.Option.{option_map}
 use Rattle.mc_packet.specs.declared.choice.Choice.{Choice}
@@ -11,7 +11,7 @@ use Rattle.mc_journal.specs.declared.record.DemuxRecord.{DemuxRecord}
 use Rattle.mc_journal.specs.declared.record.DemuxRecord.TheVariants.{Dropped, Sought, Switched}
 use Rattle.mc_journal.specs.declared.record.Removal.{Removal}
 use Rattle.mc_journal.specs.declared.record.Sought.TheVariants.{Sent}
-use Rattle.mc_journal.specs.Choices.{or_else, has, is_empty, kept_of, lead_of, nothing}
+use Rattle.mc_journal.specs.Choices.{or_else, has, kept_of, lead_of, nothing}
 use Rattle.mc_tracks.specs.declared.track.Track.{Track}
 use Rattle.mc_tracks.specs.TrackList.{numbered, is_of}
 use Rattle.mc_cache.specs.Cache.{CacheState, IsCache}

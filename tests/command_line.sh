@@ -24,7 +24,7 @@ expect() {
     rm -f /tmp/mcplay_error.$$
 }
 usage="mcplay: usage: mcplay run FILE"
-expect 0 "mcplay reads a Matroska film and prints its packets." "" --help
+expect 0 "mcplay plays a script over a Matroska film and prints its packets." "" --help
 expect 0 "mcplay 0.1.0" "" --version
 expect 2 "" "$usage"
 expect 2 "" "$usage" run

@@ -1,7 +1,7 @@
 //! Runs of scripts over films in memory: what they print, and which are refused.
 
 use crate::films::{GIVEN, PLAIN, SHORT, SWITCHED};
-use crate::support::ran_script;
+use crate::support::{begins_with, ran_script};
 use mc_script::{Exit, ScriptWhy, ShelfCause};
 use std::alloc::Global;
 use std::test::Fail;
@@ -222,16 +222,40 @@ fn missing_files(rt: HostRuntime) -> Result<(), Fail> {
     Ok(())
 }
 
+// A read failed once.
+const ROSE: Exit = Exit::Shelf(ShelfCause::Rose {
+    before: 0,
+    after: 1,
+});
+
 #[test]
 fn a_script_that_cannot_be_read(rt: HostRuntime) -> Result<(), Fail> {
     for at in 0..5 {
         let words = ["run", "film.mkv", "script"];
-        let (exit, text) = ran_script(rt.alloc(), &words, &PLAIN, b"drain".as_slice(), Some(at))?;
-        let rose = Exit::Shelf(ShelfCause::Rose {
-            before: 0,
-            after: 1,
-        });
-        assert_eq!(rt; (exit, text.len()), (rose, 0), "spot at {at}");
+        let script = b"drain".as_slice();
+        let (exit, text) = ran_script(rt.alloc(), &words, &PLAIN, script, Some((1, at)))?;
+        assert_eq!(rt; (exit, text.len()), (ROSE, 0), "spot at {at}");
+    }
+    Ok(())
+}
+
+// A failure is told until the next seek; behind that the film is read on.
+#[test]
+fn a_seek_behind_a_failed_read(rt: HostRuntime) -> Result<(), Fail> {
+    let told = "failed 0 1\nfault 1 0 1\nfault 2 0 1\nfault 1 0 1\nfault 2 0 1\nseek 0 ";
+    let whole = format!(in rt.alloc(); "{GIVEN}{CLEAN}")?;
+    for at in 78..228 {
+        let words = ["run", "film.mkv", "script"];
+        let script = b"drain\ndrain\nseek 0\ndrain".as_slice();
+        let (exit, text) = ran_script(rt.alloc(), &words, &PLAIN, script, Some((0, at)))?;
+        let given = text
+            .windows(7)
+            .position(|part| part == b"failed ".as_slice());
+        let front = GIVEN.get(..given.unwrap_or(0)).unwrap_or("");
+        let wanted = format!(in rt.alloc(); "{front}{told}")?;
+        assert_eq!(rt; exit, ROSE, "spot at {at}");
+        assert!(rt; begins_with(&text, wanted.as_bytes()), "spot at {at}");
+        assert!(rt; text.ends_with(whole.as_bytes()), "spot at {at}");
     }
     Ok(())
 }

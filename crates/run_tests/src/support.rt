@@ -79,16 +79,17 @@ pub fn ran(
     run_over(alloc, words, &mut shelf, bad)
 }
 
-/// The same where the shelf has a script too, whose read of the octet at a spot fails.
+/// The same where the shelf has a script too, behind the film; the read of the octet at a spot of the
+/// film, which is file 0, or of the script fails.
 pub fn ran_script(
     alloc: Global,
     words: &[&str],
     octets: &[u8],
     script: &[u8],
-    spot: Option<u64>,
+    spot: Option<(u32, u64)>,
 ) -> Result<(Exit, Vec<u8>), Fail> {
     let named = [("film.mkv", octets), ("script", script)];
-    let mut shelf = shelf_with(alloc, &named, spot.map(|at| (1, at)))?;
+    let mut shelf = shelf_with(alloc, &named, spot)?;
     run_over(alloc, words, &mut shelf, None)
 }
 

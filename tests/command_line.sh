@@ -1,41 +1,83 @@
 #!/usr/bin/env bash
 # What the proved program says on both streams, and its status, for words that name no film, for
-# files that are none, and for a film that it ships.
+# files that are none, for a film that it ships, and for scripts over it.
 cd "$(dirname "$0")/.." || exit 1
 program=crates/mcplay/out/mcplay
+film=crates/mcplay/data/short.mkv
 if [ ! -x "$program" ]; then
     echo "command line: no program $program; run 'rt ci' first"
     exit 1
 fi
+scripts=$(mktemp -d) || exit 1
+trap 'rm -rf "$scripts"' EXIT
 passed=0
 failed=0
 # Compares status, standard output's first line and standard error of a run of the program.
 expect() {
     local status=$1 first=$2 error=$3 said out
     shift 3
-    out=$("$program" "$@" 2>/tmp/mcplay_error.$$)
+    out=$("$program" "$@" 2>"$scripts/error")
     said=$?
-    if [ "$said" = "$status" ] && [ "${out%%$'\n'*}" = "$first" ] && [ "$(cat /tmp/mcplay_error.$$)" = "$error" ]; then
+    if [ "$said" = "$status" ] && [ "${out%%$'\n'*}" = "$first" ] && [ "$(cat "$scripts/error")" = "$error" ]; then
         passed=$((passed + 1))
     else
-        echo "command line: 'mcplay $*' ended with $said, '${out%%$'\n'*}', '$(cat /tmp/mcplay_error.$$)'"
+        echo "command line: 'mcplay $*' ended with $said, '${out%%$'\n'*}', '$(cat "$scripts/error")'"
         failed=$((failed + 1))
     fi
-    rm -f /tmp/mcplay_error.$$
 }
-usage="mcplay: usage: mcplay run FILE"
-expect 0 "mcplay reads a Matroska film and prints its packets." "" --help
+# Compares all that a run prints which ends with status 0 and says nothing on standard error.
+prints() {
+    local text=$1 said out
+    shift
+    out=$("$program" "$@" 2>&1)
+    said=$?
+    if [ "$said" = 0 ] && [ "$out" = "$text" ]; then
+        passed=$((passed + 1))
+    else
+        echo "command line: 'mcplay $*' ended with $said, '$out'"
+        failed=$((failed + 1))
+    fi
+}
+usage="mcplay: usage: mcplay run [--forward=N] [--back=N] [--readahead=N] FILE [SCRIPT]"
+expect 0 "mcplay plays a script over a Matroska film and prints its packets." "" --help
 expect 0 "mcplay 0.1.0" "" --version
 expect 2 "" "$usage"
 expect 2 "" "$usage" run
 expect 2 "" "$usage" run -film
 expect 2 "" "$usage" --help --version
-expect 2 "" "$usage" walk crates/mcplay/data/short.mkv
+expect 2 "" "$usage" walk "$film"
+expect 2 "" "$usage" run --forward=0 "$film"
+expect 2 "" "$usage" run "$film" --back=1
+expect 2 "" "$usage" run "$film" script script
 expect 3 "" "mcplay: cannot read" run no/such/film.mkv
 expect 5 "" "mcplay: file refused: NotEbml" run README.md
-expect 0 "give 1 at 66.0 time 0 len 1 sum 16 sync" "" run crates/mcplay/data/short.mkv
+first="give 1 at 66.0 time 0 len 1 sum 16 sync"
+last="give 1 at 80.0 time 80000000 len 1 sum 18 sync
+give 1 at 87.0 time 120000000 len 1 sum 19 inter
+end 1 clean"
+expect 0 "$first" "" run "$film"
+expect 0 "$first" "" run --readahead=0 --back=0 --forward=1 "$film"
+
+: >"$scripts/empty"
+printf 'demux\nread video\nseek 0.09\ndrain\n' >"$scripts/ahead"
+printf 'drain\nseek 0.09\ndrain\n' >"$scripts/again"
+printf 'drain\nread sound\n' >"$scripts/word"
+printf '# a time\nseek 1.\n' >"$scripts/number"
+prints "" run "$film" "$scripts/empty"
+prints "$first
+seek 90000000 sent
+$last" run "$film" "$scripts/ahead"
+prints "$("$program" run "$film")
+seek 90000000 cached
+$last" run "$film" "$scripts/again"
+expect 3 "" "mcplay: cannot read" run "$film" "$scripts/none"
+expect 5 "" "mcplay: file refused: NotEbml" run README.md "$scripts/ahead"
+expect 6 "" "mcplay: script line 2: Word" run "$film" "$scripts/word"
+expect 6 "" "mcplay: script line 2: Number" run --back=0 "$film" "$scripts/number"
+expect 6 "" "mcplay: script line 0: Utf8" run "$film" "$film"
+expect 6 "" "mcplay: script line 2: Word" run README.md "$scripts/word"
 if [ -w /dev/full ]; then
-    if "$program" run crates/mcplay/data/short.mkv 2>/dev/null >/dev/full; [ $? = 4 ]; then
+    if "$program" run "$film" 2>/dev/null >/dev/full; [ $? = 4 ]; then
         passed=$((passed + 1))
     else
         echo "command line: a full device is no status 4"

@@ -1,8 +1,9 @@
 #!/usr/bin/env bash
-# Runs the proved program on each film of a folder beside the repository that has a file
-# NAME.run, and compares what it prints with that file; then the same films held in memory, with
-# reads that give at most 1, 7 and 4096 octets. Skipped, saying so, where the folder or the
-# program is missing.
+# Runs the proved program on each film of a folder beside the repository (FILMS, where that is set)
+# that has a file NAME.run, and compares all that it prints without a script with that file: the
+# packets of the default tracks and their ends. The same has to come of the script `drain` with next
+# to nothing read ahead, and of the films held in memory, with reads that give at most 1, 7 and 4096
+# octets. Skipped, saying so, where the folder is missing.
 cd "$(dirname "$0")/.." || exit 1
 films=${FILMS:-../shared/films}
 program=crates/mcplay/out/mcplay
@@ -17,6 +18,9 @@ for needed in "$program" "$short_reads"; do
         exit 1
     fi
 done
+script=$(mktemp) || exit 1
+trap 'rm -f "$script"' EXIT
+echo drain >"$script"
 passed=0
 failed=0
 # Compares what a command prints for a film with the lines that it owes.
@@ -34,6 +38,7 @@ for lines in "$films"/*.run; do
     film=${lines%.run}
     name=$(basename "$film")
     check "$name" "$lines" "$program" run "$film"
+    check "$name with little read ahead" "$lines" "$program" run --forward=1 --readahead=0 "$film" "$script"
     for most in 1 7 4096; do
         check "$name with reads of $most" "$lines" "$short_reads" "$most" "$film"
     done

@@ -10,19 +10,47 @@ use std::process::ExitCode;
 use std::{env, io};
 
 const HELP: &str = "\
-mcplay reads a Matroska film and prints its packets.
+mcplay plays a script over a Matroska film and prints its packets.
 
-usage: mcplay run FILE
+usage: mcplay run [--forward=N] [--back=N] [--readahead=N] FILE [SCRIPT]
        mcplay --help | --version
 
-`run` prints a line for each packet of the film's default video and audio track, in file order:
-  give TRACK at OFFSET.FRAME time NANOSECONDS len OCTETS sum CHECKSUM sync|key|inter
-and then for each of them how the film ended:
-  end TRACK clean | end TRACK cut OFFSET | end TRACK damaged OFFSET FAULT
-or, where a read of the file failed, how many had failed before and after it:
-  failed BEFORE AFTER, and for each of them: fault TRACK BEFORE AFTER
+`run` opens FILE with its default video and audio track, and carries out the lines of the file
+SCRIPT; without SCRIPT it reads both tracks to their ends, as the script `drain` does.
 
-status: 0 done, 1 out of memory, 2 usage, 3 cannot read, 4 cannot write, 5 file refused
+options, each at most once and before FILE; N is a decimal number:
+  --forward=N    read so many octets ahead, 1 to 1073741824; else 157286400
+  --back=N       keep so many octets that were read, 0 to 1073741824; else 52428800
+  --readahead=N  read so many milliseconds ahead, 0 to 3600000; else 1000
+
+lines of a script; one that is empty or begins with # is skipped:
+  seek SECONDS               to the last keyframe at or before that time
+  seek SECONDS forward       to the first keyframe at or after it
+  switch [NUMBER...]         select just these tracks; with no number, none
+  switch [NUMBER...] at SECONDS    select them from that time on
+  show                       look at the cache
+  demux [COUNT]              do so many jobs of the demuxer
+  demux take, demux give     take a job; bring its outcome
+  read video|audio|sub [COUNT]     read so many packets of that kind's track
+  drain                      read all selected tracks to their ends
+
+what happens is printed, one line each; times are in nanoseconds, places are OFFSET.FRAME:
+  give TRACK at PLACE time TIME len OCTETS sum CHECKSUM sync|key|inter: a packet
+  end TRACK clean | end TRACK cut OFFSET | end TRACK damaged OFFSET FAULT: the film's end
+  failed BEFORE AFTER: a read of FILE failed, with how many had failed before and after it
+  fault TRACK BEFORE AFTER: that failure, told to a track's reader
+  starved: there was no memory to read on; wanting TRACK: that, told to a track's reader
+  overfull TRACK OCTETS MOST: what is read ahead is at its limit, and none is of that track
+  seek TIME [forward] cached|sent: a seek, served from the cache or not
+  switch TRACKS at TIME: other tracks were selected
+  drop TRACK from PLACE to PLACE CAUSE: packets left the cache
+  join: two ranges of the cache became one
+  view ranges COUNT forward OCTETS back OCTETS ending yes|no: a look at the cache, and for each
+    of its ranges: range FROM TO, then TRACK PLACE PLACE for each track
+  refused CAUSE: a seek without a track, or a switch to tracks that cannot be selected
+
+status: 0 done, 1 out of memory, 2 usage, 3 cannot read, 4 cannot write, 5 film refused,
+  6 script refused, 7 journal full
 ";
 
 // The words behind the program's name; `None` where one of them is no text.

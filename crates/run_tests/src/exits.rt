@@ -1,13 +1,17 @@
 //! What the program says on standard error, and its status, for each way in which it ends.
 
-use mc_script::{Exit, ShelfCause};
+use mc_script::{Exit, ScriptWhy, ShelfCause};
 use mc_tracks::Refused;
 use std::test::Fail;
 
-const ENDS: [(Exit, u8, &str); 10] = [
+const ENDS: [(Exit, u8, &str); 15] = [
     (Exit::Done, 0, ""),
     (Exit::NoMemory, 1, "mcplay: out of memory"),
-    (Exit::Usage, 2, "mcplay: usage: mcplay run FILE"),
+    (
+        Exit::Usage,
+        2,
+        "mcplay: usage: mcplay run [--forward=N] [--back=N] [--readahead=N] FILE [SCRIPT]",
+    ),
     (
         Exit::Shelf(ShelfCause::Rose {
             before: 0,
@@ -42,6 +46,39 @@ const ENDS: [(Exit, u8, &str); 10] = [
         5,
         "mcplay: file refused: TooMany",
     ),
+    (
+        Exit::Script {
+            line: 0,
+            why: ScriptWhy::Size,
+        },
+        6,
+        "mcplay: script line 0: Size",
+    ),
+    (
+        Exit::Script {
+            line: 0,
+            why: ScriptWhy::Utf8,
+        },
+        6,
+        "mcplay: script line 0: Utf8",
+    ),
+    (
+        Exit::Script {
+            line: 12,
+            why: ScriptWhy::Word,
+        },
+        6,
+        "mcplay: script line 12: Word",
+    ),
+    (
+        Exit::Script {
+            line: 1,
+            why: ScriptWhy::Number,
+        },
+        6,
+        "mcplay: script line 1: Number",
+    ),
+    (Exit::JournalFull, 7, "mcplay: journal full"),
 ];
 
 #[test]

@@ -12,4 +12,6 @@ mod films;
 #[cfg(test)]
 mod runs;
 #[cfg(test)]
+mod scripts;
+#[cfg(test)]
 mod support;

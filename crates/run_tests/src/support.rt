@@ -25,15 +25,46 @@ pub fn changed(
     Ok(film)
 }
 
-/// A shelf with one file, whose read of the octet at a spot fails.
-pub fn shelf_of(alloc: Global, octets: &[u8], spot: Option<u64>) -> Result<MemShelf, Fail> {
+/// A shelf with these files by name, whose read of the octet at a spot of a file fails.
+fn shelf_with(
+    alloc: Global,
+    named: &[(&str, &[u8])],
+    spot: Option<(u32, u64)>,
+) -> Result<MemShelf, Fail> {
     let mut files = NamedFiles::new(alloc);
-    files.push(NamedFile::new(alloc, "film.mkv", octets)?)?;
+    for (name, octets) in named {
+        files.push(NamedFile::new(alloc, name, octets)?)?;
+    }
     let mut spots = Spots::new(alloc);
-    if let Some(at) = spot {
-        spots.push((0, at))?;
+    if let Some(spot) = spot {
+        spots.push(spot)?;
     }
     Ok(MemShelf::new(files, spots))
+}
+
+/// A shelf with one file, whose read of the octet at a spot fails.
+pub fn shelf_of(alloc: Global, octets: &[u8], spot: Option<u64>) -> Result<MemShelf, Fail> {
+    shelf_with(alloc, &[("film.mkv", octets)], spot.map(|at| (0, at)))
+}
+
+// How `run` over the words and a shelf ends, and what is written.
+fn run_over(
+    alloc: Global,
+    words: &[&str],
+    shelf: &mut MemShelf,
+    bad: Option<u64>,
+) -> Result<(Exit, Vec<u8>), Fail> {
+    let mut given = Vec::new(alloc);
+    for word in words {
+        given.push(String::from_str(alloc, word)?)?;
+    }
+    let mut numbers = Numbers::new(alloc);
+    if let Some(call) = bad {
+        numbers.push(call)?;
+    }
+    let mut out = MemSink::new(alloc, numbers);
+    let report = run(alloc, &given, shelf, &mut out);
+    Ok((report.exit, Vec::from_slice(alloc, out.text())?))
 }
 
 /// How `run` over the words ends, and what is written.
@@ -44,18 +75,22 @@ pub fn ran(
     spot: Option<u64>,
     bad: Option<u64>,
 ) -> Result<(Exit, Vec<u8>), Fail> {
-    let mut given = Vec::new(alloc);
-    for word in words {
-        given.push(String::from_str(alloc, word)?)?;
-    }
     let mut shelf = shelf_of(alloc, octets, spot)?;
-    let mut numbers = Numbers::new(alloc);
-    if let Some(call) = bad {
-        numbers.push(call)?;
-    }
-    let mut out = MemSink::new(alloc, numbers);
-    let report = run(alloc, &given, &mut shelf, &mut out);
-    Ok((report.exit, Vec::from_slice(alloc, out.text())?))
+    run_over(alloc, words, &mut shelf, bad)
+}
+
+/// The same where the shelf has a script too, behind the film; the read of the octet at a spot of the
+/// film, which is file 0, or of the script fails.
+pub fn ran_script(
+    alloc: Global,
+    words: &[&str],
+    octets: &[u8],
+    script: &[u8],
+    spot: Option<(u32, u64)>,
+) -> Result<(Exit, Vec<u8>), Fail> {
+    let named = [("film.mkv", octets), ("script", script)];
+    let mut shelf = shelf_with(alloc, &named, spot)?;
+    run_over(alloc, words, &mut shelf, None)
 }
 
 /// How many packets a film has and how it ends.

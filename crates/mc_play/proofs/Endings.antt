@@ -55,8 +55,8 @@ failed_rose before now hd set g e =
 shelf_ends : (files : Option Files) (words : List (List ℕ)) (line : RunLine) (n : Counts) (hd : List DemuxRecord) → Stepped files words line n.shelf_before n.shelf_now (Ok tt) hd → list_any is_starved hd ≡ false
     → EndsLine files words line n hd (shelf_exit (list_any is_failed hd) n.shelf_before n.shelf_now)
 shelf_ends files words line n hd s starved = elim (cases_Bool (list_any is_failed hd)) [
-  | inl y ↦ rw y (inr (s, refl, refl, failed_rose n.shelf_before n.shelf_now hd s.set s.grows y))
-  | inr o ↦ rw o (s, refl, starved)
+  | inl y ↦ rw y (inr (s, y, refl, failed_rose n.shelf_before n.shelf_now hd s.set s.grows y))
+  | inr o ↦ rw o (s, o, starved)
 ]
 
 halt_ends : (files : Option Files) (words : List (List ℕ)) (line : RunLine) (n : Counts) (hd : List DemuxRecord) (halt : Result Unit Halt) → Stepped files words line n.shelf_before n.shelf_now halt hd

@@ -1,4 +1,4 @@
--- How a run comes from what it opens and plays.
+-- Proofs of how a run ends, and of what it leaves.
 pub mod Texts
 pub mod Stops
 pub mod Endings

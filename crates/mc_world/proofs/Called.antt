@@ -168,18 +168,21 @@ none_in set heads k None e = refl
 none_in set heads k (Some r) e = no_next (queue_of k r.queues) (head_of set heads k) (no_head (is_track set.video k) (is_track set.audio k) (is_track set.sub k) heads.video heads.audio heads.sub e)
 
 -- of a selected track, by what is next, its end and what failed
+would_by : (d : DemuxState) (k : ℕ) (reading : Reading) → has d.set k ≡ true → reading_of k d ≡ reading → would_tell d k ≡ is_finish (peek_at reading)
+would_by d k reading s e = ap (λ (b : Bool). b && is_finish (peek_at (reading_of k d))) s ∙ ap (λ (r : Reading). is_finish (peek_at r)) e
+
 by_wait : (d : DemuxState) (k forward max : ℕ) → next_in d.set d.heads k d.cache.current ≡ None → has d.set k ≡ true → reading_of k d ≡ waiting_for None forward max → Saw d k (waiting_for None forward max)
 by_wait d k forward max e s is = elim (cases_Bool (nat_le max forward)) [
-  | inl y ↦ let full : reading_of k d ≡ reads.Overfull forward max = rw y at is in rw y (e, rw (s, full) refl)
-  | inr n ↦ let more : reading_of k d ≡ reads.NotYet = rw n at is in rw n (e, rw (s, more) refl)
+  | inl y ↦ let full : reading_of k d ≡ reads.Overfull forward max = rw y at is in rw y (e, would_by d k (reads.Overfull forward max) s full)
+  | inr n ↦ let more : reading_of k d ≡ reads.NotYet = rw n at is in rw n (e, would_by d k reads.NotYet s more)
 ]
 
 by_parts : (d : DemuxState) (k : ℕ) (next : Option Packet) (ending : Option Ending) (failure : Option Failure) (forward max : ℕ) → next_in d.set d.heads k d.cache.current ≡ next
     → has d.set k ≡ true → reading_of k d ≡ reading_by next ending failure forward max → Saw d k (reading_by next ending failure forward max)
 by_parts d k (Some p) ending failure forward max e s is = e
-by_parts d k None (Some ending) failure forward max e s is = (e, rw (s, is) refl)
-by_parts d k None None (Some (Failed before after)) forward max e s is = (e, rw (s, is) refl)
-by_parts d k None None (Some Starved) forward max e s is = (e, rw (s, is) refl)
+by_parts d k None (Some ending) failure forward max e s is = (e, would_by d k (reads.End ending) s is)
+by_parts d k None None (Some (Failed before after)) forward max e s is = (e, would_by d k (reads.Fault before after) s is)
+by_parts d k None None (Some Starved) forward max e s is = (e, would_by d k reads.Wanting s is)
 by_parts d k None None None forward max e s is = by_wait d k forward max e s is
 
 sees : (d : DemuxState) (k : ℕ) → Saw d k (reading_of k d)
@@ -204,12 +207,12 @@ told_own : (by k : ℕ) (own : DemuxRecord) (reading : Reading) (old new : Demux
 told_own by k own reading old new h = wrote_all by own old.journal new.journal h.wrote
 
 pub reads_of : (by k : ℕ) (old new : DemuxState) (r : Result Reading DemuxError) → DemuxReads by k old r new → Reads (ahead_of old) by k old.journal new.journal r
-reads_of by k old new (Ok (reads.Gave p)) h = (ap (option_map place_of) (saw old k (reads.Gave p) h.1), h.0, told_own by k _ (reads.Gave p) old new h.2)
+reads_of by k old new (Ok (reads.Gave p)) h = (ap (option_map place_of) (saw old k (reads.Gave p) h.1), (h.0, told_own by k _ (reads.Gave p) old new h.2))
 reads_of by k old new (Ok reads.NotYet) h = let s = saw old k reads.NotYet h.1 in (no_place _ s.0, s.1, ap (λ (d : DemuxState). d.journal) h.2)
-reads_of by k old new (Ok (reads.End ending)) h = let s = saw old k (reads.End ending) h.1 in (no_place _ s.0, s.1, h.0, told_own by k _ (reads.End ending) old new h.2)
-reads_of by k old new (Ok (reads.Overfull forward max)) h = let s = saw old k (reads.Overfull forward max) h.1 in (no_place _ s.0, s.1, h.0, told_own by k _ (reads.Overfull forward max) old new h.2)
-reads_of by k old new (Ok (reads.Fault before after)) h = let s = saw old k (reads.Fault before after) h.1 in (no_place _ s.0, s.1, h.0, told_own by k _ (reads.Fault before after) old new h.2)
-reads_of by k old new (Ok reads.Wanting) h = let s = saw old k reads.Wanting h.1 in (no_place _ s.0, s.1, h.0, told_own by k _ reads.Wanting old new h.2)
+reads_of by k old new (Ok (reads.End ending)) h = let s = saw old k (reads.End ending) h.1 in (no_place _ s.0, s.1, (h.0, told_own by k _ (reads.End ending) old new h.2))
+reads_of by k old new (Ok (reads.Overfull forward max)) h = let s = saw old k (reads.Overfull forward max) h.1 in (no_place _ s.0, s.1, (h.0, told_own by k _ (reads.Overfull forward max) old new h.2))
+reads_of by k old new (Ok (reads.Fault before after)) h = let s = saw old k (reads.Fault before after) h.1 in (no_place _ s.0, s.1, (h.0, told_own by k _ (reads.Fault before after) old new h.2))
+reads_of by k old new (Ok reads.Wanting) h = let s = saw old k reads.Wanting h.1 in (no_place _ s.0, s.1, (h.0, told_own by k _ reads.Wanting old new h.2))
 reads_of by k old new (Ok reads.Unselected) h = let s = saw old k reads.Unselected h.1 in (no_place _ s.0, s.1, ap (λ (d : DemuxState). d.journal) h.2)
 reads_of by k old new (Err (errors.Refused why)) h = absurd h
 reads_of by k old new (Err errors.JournalFull) h = (ap (λ (d : DemuxState). d.journal) h.1, h.0)

@@ -22,11 +22,15 @@ use Rattle.mc_demux.specs.declared.answer.DemuxError.TheVariants.{Refused, Journ
 use Rattle.mc_demux.specs.declared.answer.Reading.{Reading}
 use Rattle.mc_demux.specs.declared.answer.Selected.{Selected}
 use Rattle.mc_demux.specs.declared.answer.Selected.TheVariants.{Same, Changed}
+use Rattle.mc_demux.specs.declared.answer.Taken.{Taken}
+use Rattle.mc_demux.specs.declared.answer.Taken.TheVariants.{Taken as WasTaken, Stale}
 use Rattle.mc_demux.specs.declared.job.Job.{Job}
+use Rattle.mc_demux.specs.declared.waiting.Failure.{Failure}
 use Rattle.mc_demux.specs.declared.waiting.Switch.{Switch}
 use Rattle.mc_demux.specs.Asking.{Asks}
 use Rattle.mc_demux.specs.Film.{StandsFor}
 use Rattle.mc_demux.specs.Marks.{AreAmong, marks_of}
+use Rattle.mc_demux.specs.Outcomes.{Fails}
 use Rattle.mc_demux.specs.Readings.{Reads, ReadsWith, record_of}
 use Rattle.mc_demux.specs.Seeking.{Seeks}
 use Rattle.mc_demux.specs.Selecting.{Selects}
@@ -81,6 +85,14 @@ seek-stands octets old new c x by t dir result s film among h = same-stands octe
 pub read-stands : (octets : List ℕ) (old new : DemuxState) (c : Cursor) (x : Index) (by track : ℕ) (result : Result Reading DemuxError) → StandTogether octets old c x
     → StandsFor (film_for (plan_for octets c)) new → AreAmong (marks_of old.cache) new.cache → Reads by track old result new → StandTogether octets new c x
 read-stands octets old new c x by track result s film among h = same-stands octets old new c x s film among (reads-switch by track old result new h)
+
+fails-switch : (n : ℕ) (failure : Failure) (own : DemuxRecord) (old : DemuxState) (taken : Taken) (new : DemuxState) → Fails n failure own old taken new → new.switch ≡ old.switch
+fails-switch n failure own old WasTaken new h = ap (λ (d : DemuxState). d.switch) h.1
+fails-switch n failure own old (Stale asked now) new h = ap (λ (d : DemuxState). d.switch) h.same
+
+pub fails-stands : (octets : List ℕ) (old new : DemuxState) (c : Cursor) (x : Index) (n : ℕ) (failure : Failure) (own : DemuxRecord) (taken : Taken) → StandTogether octets old c x
+    → StandsFor (film_for (plan_for octets c)) new → AreAmong (marks_of old.cache) new.cache → Fails n failure own old taken new → StandTogether octets new c x
+fails-stands octets old new c x n failure own taken s film among h = same-stands octets old new c x s film among (fails-switch n failure own old taken new h)
 
 own-again : (old new : CacheState) → new ≡ old → AreAmong (marks_of old) new
 own-again old new e = subst (AreAmong (marks_of old)) (sym e) (own-marks (ranges_of old))

@@ -27,6 +27,7 @@ use Rattle.mc_demux.specs.Jobs.{job_of}
 use Rattle.mc_demux.specs.Readings.{peek_at, reading_of}
 use Rattle.mc_demux.specs.Shows.{is_finish, is_idle_job}
 use Rattle.mc_demux.specs.State.{DemuxState, next_in}
+use Rattle.mc_demux.specs.declared.answer.Peek.{Peek}
 use Rattle.mc_demux.specs.declared.answer.Peek.TheVariants.{Finish}
 use Rattle.mc_demux.proofs.Showing.{front_is, tells_is}
 use Rattle.mc_script.specs.Plays.{OfEach, Readings, is_order, reader, readings, selection, still_left, tells_reader, untold}
@@ -193,9 +194,15 @@ none_opened film limits (r ∷ rs) t some u = rw (not_opened film limits r (rs +
 
 -- ---- of each track
 
+same_track : (j k : ℕ) → is_track (Some j) k ≡ true → j ≡ k
+same_track j k e = elim (eqb_tells j k) [
+  | inl y ↦ y.1
+  | inr n ↦ let f : false ≡ true = sym n.0 ∙ e in absurd (cc)
+]
+
 track_kept : (o : Option ℕ) (test : ℕ → Bool) (k : ℕ) → is_track o k ≡ true → test k ≡ true → is_track (kept_track test o) k ≡ true
 track_kept None test k e f = absurd (cc)
-track_kept (Some j) test k e f = let same : j ≡ k = eqb_tells j k e in rw (same, f) (grind arith)
+track_kept (Some j) test k e f = let same : j ≡ k = same_track j k e in rw (same, f) (grind arith)
 
 has_kept : (set : Choice) (test : ℕ → Bool) (k : ℕ) → has set k ≡ true → test k ≡ true → has (kept_of set test) k ≡ true
 has_kept set test k e f = elim (or_elim (is_track set.video k) (is_track set.audio k || is_track set.sub k) e) [
@@ -230,7 +237,7 @@ each_left set part P all = (
 by_kind : (kind : Kind) (o : Option ℕ) (part : List DemuxRecord) (k : ℕ) (P : ℕ → Type 0) → IfSome (still_left kind part o) P → (list_any (tells_reader (reader kind) k) part ≡ true → P k) → is_track o k ≡ true → P k
 by_kind kind None part k P left told e = absurd (cc)
 by_kind kind (Some j) part k P left told e =
-    let same : j ≡ k = eqb_tells j k e in
+    let same : j ≡ k = same_track j k e in
     elim (cases_Bool (list_any (tells_reader (reader kind) k) part)) [
       | inl y ↦ told y
       | inr n ↦
@@ -288,7 +295,8 @@ tells_failed film d k h f e = rw (h, none_is (next film.packets (reverse d.journ
 
 -- where none did, all is read
 tells_rested : (film : Film) (d : DemuxState) (k : ℕ) → StandsFor film d → has d.set k ≡ true → peek_at (reading_of k d) ≡ Finish → Tells film d k
-tells_rested film d k s h e = sym (tells_is film d k s) ∙ rw (h, e) refl
+tells_rested film d k s h e =
+    sym (tells_is film d k s) ∙ ap (λ (b : Bool). b && is_finish (peek_at (reading_of k d))) h ∙ ap (λ (p : Peek). is_finish p) e
 
 both_each : (set : Choice) (P Q : ℕ → Type 0) → OfEach set P → OfEach set Q → OfEach set (λ k. P k × Q k)
 both_each set P Q h g = (one set.video h.0 g.0, one set.audio h.1 g.1, one set.sub h.2 g.2) where

@@ -18,16 +18,20 @@ use Rattle.mc_world.proofs.Rested.{idle_is_idle, rests}
 use Rattle.mc_world.proofs.Shown.{shown}
 use Rattle.mc_world.proofs.Staying.{Stays, still_readings}
 
-pub driver_shows : (m : Driver) (octets : List ℕ) (rd : Readings) → Stands m octets rd → ahead_of m.demux ≡ at rd m.demux.journal
-driver_shows m octets rd s =
-    subst (λ (x : Readings). ahead_of m.demux ≡ at x m.demux.journal) (sym s.readings_are) (shown (film_for (plan_for octets m.cursor)) m.demux s.demux s.drives.demux_is)
-
-pub driver_rests : (m : Driver) (octets : List ℕ) (rd : Readings) → Stands m octets rd → (ahead_of m.demux).idle ≡ true → AtRest rd m.demux.journal
-driver_rests m octets rd s idle =
-    let film = film_for (plan_for octets m.cursor) in
-    let d = m.demux in
-    let laws = record { ended = λ k e. stands_ended film d k s.drives.demux_is e; told = λ none k e. demux_rests d k s.demux (idle_is_idle (job_of d) idle) none e } in
-    subst (λ (x : Readings). AtRest x d.journal) (sym s.readings_are) (rests film d s.drives.demux_is laws (ahead_of d).idle (idle_is film d s.demux s.drives.demux_is) idle)
+-- what it stands for, and that it answers as its journal says
+pub stands_for : (d : Driver) (octets : List ℕ) (rd : Readings) → Drives octets d → IsDemux d.demux → rd ≡ readings (film_for (plan_for octets d.cursor)) d.demux.cache.limits (choice_for d.demux.list) → Stands d octets rd
+stands_for d octets rd drives is e =
+    let film = film_for (plan_for octets d.cursor) in
+    let m = d.demux in
+    let s = drives.demux_is in
+    record {
+      drives = drives;
+      demux = is;
+      readings_are = e;
+      shows = subst (λ (x : Readings). ahead_of m ≡ at x m.journal) (sym e) (shown film m is s);
+      rests = λ idle. subst (λ (x : Readings). AtRest x m.journal) (sym e)
+          (rests film m s (record { ended = λ k h. stands_ended film m k s h; told = λ none k h. demux_rests m k is (idle_is_idle (job_of m) idle) none h }) (ahead_of m).idle (idle_is film m is s) idle);
+    }
 
 -- ---- what is kept
 
@@ -35,11 +39,7 @@ driver_rests m octets rd s idle =
 pub stands_on : (old new : Driver) (octets : List ℕ) (rd : Readings) → plan_for octets new.cursor ≡ plan_for octets old.cursor → Stays old.demux new.demux → IsDemux new.demux → Drives octets new → Stands old octets rd
     → Stands new octets rd
 stands_on old new octets rd plan stays demux drives s =
-    record {
-      drives = drives;
-      demux = demux;
-      readings_are = still_readings rd (plan_for octets old.cursor) (plan_for octets new.cursor) old.demux new.demux plan stays s.readings_are;
-    }
+    stands_for new octets rd drives demux (still_readings rd (plan_for octets old.cursor) (plan_for octets new.cursor) old.demux new.demux plan stays s.readings_are)
 
 pub fixed_on : (old new : Driver) → new.cursor.file.0 ≡ old.cursor.file.0 → Stays old.demux new.demux → fixed_of new ≡ fixed_of old
 fixed_on old new file stays = rw (file, stays.limits) refl

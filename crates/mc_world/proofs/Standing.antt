@@ -177,23 +177,23 @@ waiting-known plan d s =
     subst (λ set. is_known (known_in plan.tracks) set ≡ true) (sym s.fits.waits_are)
     (kept-known (known_in plan.tracks) d.set (λ track. waits track (reverse d.journal)) (set-known plan d s))
 
-pub seek-is : (plan : Plan) (d : DemuxState) (n : ℕ) (set : Choice) (t : ℤ) (dir : Dir) (brought : Brought) → IsPlan plan → IsDemux d → StandsFor (film_for plan) d
-    → Keeps d (SeekTo n set t dir) → AreSeekStarts plan set t dir brought → AreStarts set brought → IsOf plan n brought d
-seek-is plan d n set t dir (Part c) plan_is is s kept found fits = absurd fits
-seek-is plan d n set t dir (Starts starts) plan_is is s kept found fits =
+pub seek-is : (plan : Plan) (d : DemuxState) (m n : ℕ) (set : Choice) (t : ℤ) (dir : Dir) (brought : Brought) → IsPlan plan → IsDemux d → StandsFor (film_for plan) d
+    → Keeps d (SeekTo n set t dir) → AreSeekStarts plan set t dir brought → AreStarts set brought → IsOf plan m brought d
+seek-is plan d m n set t dir (Part c) plan_is is s kept found fits = absurd fits
+seek-is plan d m n set t dir (Starts starts) plan_is is s kept found fits =
     let k = (kept-is d (SeekTo n set t dir) is kept).is in
     let known : is_known (known_in plan.tracks) set ≡ true = subst (λ c. is_known (known_in plan.tracks) c ≡ true) (sym k.1) (set-known plan d s) in
     record {
       film = λ e. subst (λ o. IfSome o (AreStartsOf (film_for plan) starts)) (sym kept) (of-seek plan set dir t starts known found.0 found.1);
       mark = starts-mark plan starts plan_is found.0;
     }
-seek-is plan d n set t dir (Nothing failure) plan_is is s kept found fits = record { film = tt; mark = tt }
+seek-is plan d m n set t dir (Nothing failure) plan_is is s kept found fits = record { film = tt; mark = tt }
 
-pub added-is : (plan : Plan) (d : DemuxState) (n : ℕ) (added : Choice) (lead : Option ℕ) (at : ℤ) (brought : Brought) → IsPlan plan → IsDemux d → StandsFor (film_for plan) d
+pub added-is : (plan : Plan) (d : DemuxState) (m n : ℕ) (added : Choice) (lead : Option ℕ) (at : ℤ) (brought : Brought) → IsPlan plan → IsDemux d → StandsFor (film_for plan) d
     → passes d.switch.lead (is_listed (known_in plan.tracks)) ≡ true
-    → Keeps d (Refresh n added lead at) → AreSwitchStarts plan added lead at brought → AreStarts added brought → IsOf plan n brought d
-added-is plan d n added lead at (Part c) plan_is is s listed kept found fits = absurd fits
-added-is plan d n added lead at (Starts starts) plan_is is s listed kept found fits =
+    → Keeps d (Refresh n added lead at) → AreSwitchStarts plan added lead at brought → AreStarts added brought → IsOf plan m brought d
+added-is plan d m n added lead at (Part c) plan_is is s listed kept found fits = absurd fits
+added-is plan d m n added lead at (Starts starts) plan_is is s listed kept found fits =
     let k = (kept-is d (Refresh n added lead at) is kept).is in
     let known : is_known (known_in plan.tracks) added ≡ true = subst (λ c. is_known (known_in plan.tracks) c ≡ true) (sym k.1) (waiting-known plan d s) in
     let leads : passes lead (is_listed (known_in plan.tracks)) ≡ true = subst (λ (w : Switch). passes w.lead (is_listed (known_in plan.tracks)) ≡ true) k.3 listed in
@@ -201,7 +201,7 @@ added-is plan d n added lead at (Starts starts) plan_is is s listed kept found f
       film = λ e. subst (λ o. IfSome o (AreStartsOf (film_for plan) starts)) (sym kept) (of-switch plan added lead at starts known leads found.0 found.1);
       mark = starts-mark plan starts plan_is found.0;
     }
-added-is plan d n added lead at (Nothing failure) plan_is is s listed kept found fits = record { film = tt; mark = tt }
+added-is plan d m n added lead at (Nothing failure) plan_is is s listed kept found fits = record { film = tt; mark = tt }
 
 -- ---- a part
 

@@ -20,7 +20,7 @@ use Rattle.mc_demux.specs.Selecting.{choice_of, refusal_of}
 use Rattle.mc_demux.specs.Shows.{goal_of, is_finish, is_idle_job}
 use Rattle.mc_demux.specs.State.{DemuxState, next_in}
 use Rattle.mc_script.specs.Plays.{Readings, readings}
-use Rattle.mc_lines.specs.Calls.{Ahead, Fixed, Jobs}
+use Rattle.mc_lines.specs.Calls.{Ahead, AtRest, Fixed, Jobs, at}
 use Rattle.mc_world.specs.declared.brought.Brought.{Brought}
 use Rattle.mc_world.specs.declared.driver.Driver.{Driver}
 use Rattle.mc_world.specs.Driving.{Drives}
@@ -64,6 +64,9 @@ pub record Stands (d : Driver) (octets : List ℕ) (rd : Readings) : Type 0 wher
   pub drives : Drives octets d
   pub demux : IsDemux d.demux
   pub readings_are : rd ≡ readings (film_for (plan_for octets d.cursor)) d.demux.cache.limits (choice_for d.demux.list)
+  -- so it answers next what its journal says, and at rest all that is cached can be read to the end
+  pub shows : ahead_of d.demux ≡ at rd d.demux.journal
+  pub rests : (ahead_of d.demux).idle ≡ true → AtRest rd d.demux.journal
 
 -- a job that reads a part of the film
 abbrev pub IsPartJob : Job → Type 0

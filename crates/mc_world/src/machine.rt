@@ -1,6 +1,5 @@
 //! A driver as a machine on which a script is played.
 ghost use Rattle.mc_world.specs.Machines.{Stands, ahead_of, fixed_of, jobs_of};
-ghost use Rattle.mc_world.proofs.Ruling.{driver_rests, driver_shows};
 
 use crate::driver::Driver;
 use crate::job::number_of;
@@ -63,7 +62,7 @@ impl Machine for Driver {
         self.demux.time().unwrap_or(0)
     }
 
-    ghost shows_film = { λ m octets rd s. driver_shows m octets rd s };
+    ghost shows_film = { λ m octets rd s. s.shows };
 
-    ghost rests = { λ m octets rd s idle. driver_rests m octets rd s idle };
+    ghost rests = { λ m octets rd s idle. s.rests idle };
 }

@@ -1,6 +1,8 @@
-use Rattle.std.proofs.Common.{sym, refl, ◌≡◌, ◌∙◌}
+use Rattle.std.proofs.Common.{subst, ◌≡◌, ◌∙◌}
 use Rattle.std.specs.Prelude.{Ok, Err}
+use Rattle.mc_script.specs.declared.acts.ScriptError.{ScriptError}
 use Rattle.mc_script.specs.declared.acts.ScriptError.TheVariants.{Refused}
+use Rattle.mc_script.specs.Script.{Gives, script_of}
 use Rattle.mc_play.proofs.Texts.{script_said}
 use Rattle.mc_play.proofs.opening.read_lines.Goals as goal
 
@@ -10,4 +12,6 @@ returns-in-Ok-parse_script-clause-script g c octets told =
 
 pub returns-in-Err-Refused-clause-stopped : goal.returns-in-Err-Refused-clause-stopped
 returns-in-Err-Refused-clause-stopped g c octets told =
-    script_said octets c.deref.result.now (Err (Refused c.in-Err-Refused.line c.in-Err-Refused.why)) (c.deref.ensures.value ∙ c.in-Ok.ensures.octets octets told) c.in-Err-Refused.ensures.value
+    let refused = c.in-Err-Refused in
+    script_said octets c.deref.result.now (Err (Refused refused.line refused.why)) (c.deref.ensures.value ∙ c.in-Ok.ensures.octets octets told)
+    (subst (λ (e : ScriptError). Gives (Err e) (script_of c.deref.result.now)) refused.field-0-is refused.ensures.value)

@@ -30,7 +30,7 @@ returns-clause-stands c = λ octets rd s.
     let me = c.args.self.now in
     let call = c.read in
     let drives = read-stands octets me.demux call.new.self me.cursor me.index c.args.by c.args.track call.result s.drives (call.ensures.film (film_for (plan_for octets me.cursor)) s.drives.demux_is) call.ensures.marks call.ensures.value in
-    stands_on me _ octets rd refl (reads_stays c.args.by c.args.track me.demux call.new.self call.result call.ensures.value) call.ensures.demux drives s
+    stands_on me (record me { demux = call.new.self }) octets rd refl (reads_stays c.args.by c.args.track me.demux call.new.self call.result call.ensures.value) call.ensures.demux drives s
 
 pub returns-clause-fixed : goal.returns-clause-fixed
-returns-clause-fixed c = let call = c.read in fixed_on c.args.self.now _ refl (reads_stays c.args.by c.args.track c.args.self.now.demux call.new.self call.result call.ensures.value)
+returns-clause-fixed c = let call = c.read in let me = c.args.self.now in fixed_on me (record me { demux = call.new.self }) refl (reads_stays c.args.by c.args.track me.demux call.new.self call.result call.ensures.value)

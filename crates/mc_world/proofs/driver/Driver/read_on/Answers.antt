@@ -1,18 +1,8 @@
 use Rattle.mc_walk.specs.Parts.{IsMark}
 use Rattle.mc_cursor.specs.Standing.{plan_for}
 use Rattle.mc_world.specs.Filmed.{film_for}
-use Rattle.mc_world.proofs.Bringing.{part_brings}
 use Rattle.mc_world.proofs.Standing.{brought-stands, current-mark, film-plan, part-is}
-use Rattle.mc_world.proofs.job.Driver.read_on.Goals as goal
-
-pub bring-requires-clause-brought : goal.bring-requires-clause-brought
-bring-requires-clause-brought g c =
-    let read = c.read_part-brought in
-    part_brings c.args.self.now.demux c.args.job c.args.no (g.S.Shelf.faults c.args.shelf.now) (g.S.Shelf.faults read.new.shelf) c.in-Some.mark read.result c.requires.demux c.requires.kept c.requires.part
-    c.in-Some.ensures.value read.ensures.fits read.ensures.counts
-
-pub returns-clause-value : goal.returns-clause-value
-returns-clause-value g c = (c.read_part-brought.result, c.read_part-brought.ensures.counts, c.bring.ensures.value)
+use Rattle.mc_world.proofs.driver.Driver.read_on.Goals as goal
 
 pub returns-clause-stands : goal.returns-clause-stands
 returns-clause-stands g c = λ octets told s.

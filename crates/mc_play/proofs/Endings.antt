@@ -77,9 +77,9 @@ pub run_ends : (files : Option Files) (words : List (List ℕ)) (line : RunLine)
 run_ends files words line n hd halt wrote s fits = elim (cases_Bool (wants_memory halt)) [
   | inl y ↦ rw y (inr (halt, s))
   | inr o ↦ rw o (elim (cases_Bool (list_any is_starved hd)) [
-      | inl z ↦ rw z (inr (halt, s))
-      | inr p ↦ rw p (write_ends files words line n hd halt wrote s fits p)
-    ])
+    | inl z ↦ rw z (inr (halt, s))
+    | inr p ↦ rw p (write_ends files words line n hd halt wrote s fits p)
+  ])
 ]
 
 pub stopped_ends : (files : Option Files) (words : List (List ℕ)) (line : RunLine) (n : Counts) (exit : Exit) → Stopped files words line n.shelf_before n.shelf_now exit → EndsLine files words line n [] exit
@@ -123,9 +123,9 @@ pub run_written : (old new : Option (List ℕ)) (hd : List DemuxRecord) (halt : 
 run_written old new hd halt wrote before now well = elim (cases_Bool (wants_memory halt)) [
   | inl y ↦ rw y (any_front old new hd wrote well)
   | inr o ↦ rw o (elim (cases_Bool (list_any is_starved hd)) [
-      | inl z ↦ rw z (any_front old new hd wrote well)
-      | inr p ↦ rw p (write_written old new hd halt wrote (list_any is_failed hd) before now well)
-    ])
+    | inl z ↦ rw z (any_front old new hd wrote well)
+    | inr p ↦ rw p (write_written old new hd halt wrote (list_any is_failed hd) before now well)
+  ])
 ]
 
 same_text : (text : Option (List ℕ)) → TextGrows text text []

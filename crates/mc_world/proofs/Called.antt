@@ -86,8 +86,7 @@ selects by numbers at old new (Ok Same) h =
     (ap (λ o. refused_or o (choice_of old.list numbers)) h.1 ∙ ap (λ (c : Choice). Ok c) h.2, ap (λ (d : DemuxState). d.journal) h.3, ap (λ (d : DemuxState). jobs_of d) h.3)
 selects by numbers at old new (Ok Changed) h =
     let set = choice_of old.list numbers in
-    let n : new.number ≡ old.number + 1 = ap (λ (d : DemuxState). d.number) h.3.changed in
-    (
+    let n : new.number ≡ old.number + 1 = ap (λ (d : DemuxState). d.number) h.3.changed in (
       record {
         set = set;
         added = added_to set old;

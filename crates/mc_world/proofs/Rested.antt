@@ -100,13 +100,13 @@ any_told : (n k : ℕ) (rs : List DemuxRecord) → list_any (tells_reader n k) r
 any_told n k [] e = absurd (cc)
 any_told n k (r ∷ rs) e = elim (or_elim (tells_reader n k r) (list_any (tells_reader n k) rs) e) [
   | inl f ↦ elim (told_split n k r f) [
-      | inl g ↦ inl (any_first (is_end k) r rs g)
-      | inr g ↦ inr (any_first is_fault r rs g)
-    ]
+    | inl g ↦ inl (any_first (is_end k) r rs g)
+    | inr g ↦ inr (any_first is_fault r rs g)
+  ]
   | inr f ↦ elim (any_told n k rs f) [
-      | inl g ↦ inl (any_more (is_end k) r rs g)
-      | inr g ↦ inr (any_more is_fault r rs g)
-    ]
+    | inl g ↦ inl (any_more (is_end k) r rs g)
+    | inr g ↦ inr (any_more is_fault r rs g)
+  ]
 ]
 
 -- ---- records behind which nothing was ordered
@@ -208,11 +208,11 @@ has_kept : (set : Choice) (test : ℕ → Bool) (k : ℕ) → has set k ≡ true
 has_kept set test k e f = elim (or_elim (is_track set.video k) (is_track set.audio k || is_track set.sub k) e) [
   | inl g ↦ rw (track_kept set.video test k g f) refl
   | inr o ↦ elim (or_elim (is_track set.audio k) (is_track set.sub k) o) [
-      | inl g ↦ rw (track_kept set.audio test k g f) (or_true (is_track (kept_track test set.video) k))
-      | inr g ↦
-          let last : (is_track (kept_track test set.audio) k || is_track (kept_track test set.sub) k) ≡ true = rw (track_kept set.sub test k g f) (or_true (is_track (kept_track test set.audio) k)) in
-          rw last (or_true (is_track (kept_track test set.video) k))
-    ]
+    | inl g ↦ rw (track_kept set.audio test k g f) (or_true (is_track (kept_track test set.video) k))
+    | inr g ↦
+        let last : (is_track (kept_track test set.audio) k || is_track (kept_track test set.sub) k) ≡ true = rw (track_kept set.sub test k g f) (or_true (is_track (kept_track test set.audio) k)) in
+        rw last (or_true (is_track (kept_track test set.video) k))
+  ]
 ]
 
 is_its : (k : ℕ) → is_track (Some k) k ≡ true
@@ -250,9 +250,9 @@ each_told : (set : Choice) (part : List DemuxRecord) (P : ℕ → Type 0) → Of
 each_told set part P left told k e = elim (or_elim (is_track set.video k) (is_track set.audio k || is_track set.sub k) e) as (λ _. P k) [
   | inl g ↦ by_kind Video set.video part k P left.0 (told 2 k e) g
   | inr o ↦ elim (or_elim (is_track set.audio k) (is_track set.sub k) o) as (λ _. P k) [
-      | inl g ↦ by_kind Audio set.audio part k P left.1 (told 3 k e) g
-      | inr g ↦ by_kind Sub set.sub part k P left.2 (told 4 k e) g
-    ]
+    | inl g ↦ by_kind Audio set.audio part k P left.1 (told 3 k e) g
+    | inr g ↦ by_kind Sub set.sub part k P left.2 (told 4 k e) g
+  ]
 ]
 
 if_each : (set : Choice) (P Q : ℕ → Type 0) → ((k : ℕ) → P k → Q k) → OfEach set P → OfEach set Q
@@ -329,8 +329,8 @@ told_in film d s r (b ∷ bs) part split quiet fronts =
       | inl y ↦
           let had = each_left (selected t) part (λ k. has (selected t) k ≡ true) (λ k h. h) in
           if_each (untold (selected t) part) (λ k. Front film d k × (has (selected t) k ≡ true)) (Tells film d)
-              (λ k p. tells_failed film d k (subst (λ (c : Choice). has c k ≡ true) (sym same) p.1) y p.0)
-              (both_each (untold (selected t) part) (Front film d) (λ k. has (selected t) k ≡ true) fronts had)
+          (λ k p. tells_failed film d k (subst (λ (c : Choice). has c k ≡ true) (sym same) p.1) y p.0)
+          (both_each (untold (selected t) part) (Front film d) (λ k. has (selected t) k ≡ true) fronts had)
       | inr n ↦
           let is_told : (n' k : ℕ) → has (selected t) k ≡ true → list_any (tells_reader n' k) part ≡ true → next_in d.set d.heads k d.cache.current ≡ None =
           λ n' k h e. elim (any_told n' k part e) [
@@ -347,7 +347,7 @@ told_in film d s r (b ∷ bs) part split quiet fronts =
           let none = each_told (selected t) part (λ k. next_in d.set d.heads k d.cache.current ≡ None) left is_told in
           let none_set : (k : ℕ) → has d.set k ≡ true → next_in d.set d.heads k d.cache.current ≡ None = λ k h. none k (subst (λ (c : Choice). has c k ≡ true) here h) in
           each_left (selected t) part (Tells film d)
-              (λ k h. let mine : has d.set k ≡ true = subst (λ (c : Choice). has c k ≡ true) (sym here) h in tells_rested film d k s mine (r.told none_set k mine))
+          (λ k h. let mine : has d.set k ≡ true = subst (λ (c : Choice). has c k ≡ true) (sym here) h in tells_rested film d k s mine (r.told none_set k mine))
     ]
 
 pub rests : (film : Film) (d : DemuxState) → StandsFor film d → Rests film d → (idle : Bool) → idle ≡ (readings film d.cache.limits (choice_for d.list)).idle d.journal → idle ≡ true

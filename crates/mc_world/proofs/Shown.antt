@@ -32,20 +32,20 @@ use Rattle.mc_world.proofs.Called.{next_gave, next_none}
 same_ahead : (set set' : Choice) (front front' : ℕ → Option ℕ) (tells tells' : ℕ → Bool) (idle idle' : Bool) (time time' : ℤ) (choice : List ℕ → Result Choice Why) (pending pending' : Option (ℤ × Dir))
     → set ≡ set' → front ≡ front' → tells ≡ tells' → idle ≡ idle' → time ≡ time' → pending ≡ pending'
     → (let a : Ahead = record { set = set; front = front; tells = tells; idle = idle; time = time; choice = choice; pending = pending } in a)
-      ≡ (let b : Ahead = record { set = set'; front = front'; tells = tells'; idle = idle'; time = time'; choice = choice; pending = pending' } in b)
+    ≡ (let b : Ahead = record { set = set'; front = front'; tells = tells'; idle = idle'; time = time'; choice = choice; pending = pending' } in b)
 same_ahead set set' front front' tells tells' idle idle' time time' choice pending pending' a b c d e f = rw (a, b, c, d, e, f) refl
 
 pub shown : (film : Film) (d : DemuxState) → IsDemux d → StandsFor film d → ahead_of d ≡ at (readings film d.cache.limits (choice_for d.list)) d.journal
 shown film d is s =
     let set = set_is film d s in
     same_ahead d.set (selected (reverse d.journal)) (λ k. option_map place_of (next_in d.set d.heads k d.cache.current)) (λ k. option_map place (next film.packets (reverse d.journal) k)) (would_tell d) _
-        (is_idle_job _) (is_idle film.packets d.cache.limits (reverse d.journal)) _ (unwrap_or (time_of (lead_of (selected (reverse d.journal))) (reverse d.journal)) (pos 0)) (choice_for d.list) _ _
-        set
-        (fun_ext (λ k. front_is film d k s))
-        (fun_ext (λ k. tells_is film d k s))
-        (idle_is film d is s)
-        (ap (λ (c : Choice). unwrap_or (time_of (lead_of c) (reverse d.journal)) (pos 0)) set)
-        (pending_is film d s)
+    (is_idle_job _) (is_idle film.packets d.cache.limits (reverse d.journal)) _ (unwrap_or (time_of (lead_of (selected (reverse d.journal))) (reverse d.journal)) (pos 0)) (choice_for d.list) _ _
+    set
+    (fun_ext (λ k. front_is film d k s))
+    (fun_ext (λ k. tells_is film d k s))
+    (idle_is film d is s)
+    (ap (λ (c : Choice). unwrap_or (time_of (lead_of c) (reverse d.journal)) (pos 0)) set)
+    (pending_is film d s)
 
 -- ---- reads on a film
 

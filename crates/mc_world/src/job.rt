@@ -71,7 +71,10 @@ impl Driver {
                 bring(&mut self.demux, no, brought)
             }
             Job::Refresh {
-                added, lead, at, ..
+                added,
+                lead,
+                at,
+                ..
             } => {
                 let brought = find_added(&mut self.cursor, &mut self.index, shelf, added, lead, at);
                 bring(&mut self.demux, no, brought)

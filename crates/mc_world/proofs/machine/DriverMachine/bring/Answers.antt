@@ -14,7 +14,7 @@ returns-then-ne-clause-stands g c = λ octets rd told s.
     let me = c.args.self.now in
     let call = c.starved in
     let drives = fails-stands octets me.demux call.new.self me.cursor me.index c.in-Some.no Starved (StarvedRecord 5) call.result s.drives
-        (call.ensures.film (film_for (plan_for octets me.cursor)) s.drives.demux_is) call.ensures.marks call.ensures.value in
+    (call.ensures.film (film_for (plan_for octets me.cursor)) s.drives.demux_is) call.ensures.marks call.ensures.value in
     stands_on me (record me { demux = call.new.self }) octets rd refl (fails_stays c.in-Some.no Starved (StarvedRecord 5) me.demux call.new.self call.result call.ensures.value) call.ensures.demux drives s
 
 pub returns-clause-stands : goal.returns-clause-stands

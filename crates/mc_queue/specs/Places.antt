@@ -1,5 +1,6 @@
 -- Packets of one track in rising order, and those of them before a place, at or behind it, or between two.
-use Rattle.std.specs.Prelude.{◌≡◌, ℕ, ◌+◌, ◌≤◌, ◌<◌, nat_le, nat_lt, Bool, ◌&&◌, if◌then◌else◌, Option, Some, None, List, [], ◌∷◌, length, filter, sum_by}
+use Rattle.std.specs.Prelude.{◌≡◌, ℕ, ◌+◌, ◌-◌, true, false, slice_get, ◌≤◌, ◌<◌, nat_le, nat_lt, Bool, ◌&&◌, if◌then◌else◌, Option, Some, None, List, [], ◌∷◌, length, filter, sum_by}
+use Rattle.std.specs.List.{AllWithin}
 use Rattle.mc_packet.specs.declared.packet.Packet.{Packet}
 use Rattle.mc_journal.specs.Films.{rank}
 
@@ -50,3 +51,16 @@ behind cut (p ∷ ps) = if is_before cut p then behind cut ps else p ∷ ps
 abbrev pub DropsFirst : ℕ → List Packet → List Packet → Option ℕ → Type 0
 DropsFirst cut old new None = (new ≡ old) × (behind cut old ≡ old)
 DropsFirst cut old new (Some weight) = (behind cut new ≡ behind cut old) × (weight + weights new ≡ weights old) × (length new < length old)
+
+-- there is a packet, and it stands at the place or behind it
+abbrev pub is_from_at : ℕ → Option Packet → Bool
+is_from_at cut None = false
+is_from_at cut (Some p) = is_from cut p
+
+-- there is a packet in front of the index, and it stands at the place or behind it
+abbrev pub is_behind : ℕ → ℕ → List Packet → Bool
+is_behind cut i ps = nat_lt 0 i && is_from_at cut (slice_get ps (i - 1))
+
+-- the packets in front of the index stand before the place, and the others do not
+abbrev pub IsIndexAt : ℕ → ℕ → List Packet → Type 0
+IsIndexAt cut i ps = AllWithin (λ p. is_before cut p ≡ true) ps 0 i × AllWithin (λ p. is_before cut p ≡ false) ps i (length ps)

@@ -4,17 +4,18 @@ ghost use Rattle.std.specs.Option.{option_copied};
 ghost use Rattle.mc_journal.specs.Films.{rank};
 ghost use Rattle.mc_queue.specs.Places.{from_place, is_before, weight_at, weights};
 
-use crate::lookups::get_at;
-use crate::place::{is_before, weight_of};
+use crate::lookups::{get_at, index_at};
+use crate::place::{is_at, is_before, weight_of};
 use mc_packet::{Packet, Pos};
 use std::collections::VecDeque;
 
-/// The index from which on packets stand at a place or behind it, found by halving.
-fn index_at(packets: &VecDeque<Packet>, head: Pos) -> usize
+/// The index from which on packets stand at a place or behind it.
+#[tactic(auto, using(crate::proofs::Rests::rest_is))]
+fn rest_at(packets: &VecDeque<Packet>, head: Pos) -> usize
     requires parted { IsPartitionedBy (is_before (rank head)) packets.now.items }
     ensures { drop result packets.now.items ≡ from_place (rank head) packets.now.items }
 {
-    packets.partition_point(|p| is_before(p.pos, head))
+    index_at(packets, head)
 }
 
 fn weight_at(packet: Option<&Packet>) -> u64
@@ -50,8 +51,11 @@ pub(crate) fn weight_moved(packets: &VecDeque<Packet>, from: Pos, ahead: u64, he
     requires ahead { ahead ≡ weights (from_place (rank from) packets.now.items) }
     ensures { result ≡ weights (from_place (rank head) packets.now.items) }
 {
-    let old = index_at(packets, from);
-    let new = index_at(packets, head);
+    if is_at(from, head) {
+        return ahead;
+    }
+    let old = rest_at(packets, from);
+    let new = rest_at(packets, head);
     if new <= old {
         ahead + weight_between(packets, new, old)
     } else {

@@ -3,19 +3,54 @@ ghost use Rattle.std.specs.List.{find, list_any};
 ghost use Rattle.std.specs.Option.{option_copied, option_map};
 ghost use Rattle.mc_journal.specs.Films.{rank};
 ghost use Rattle.std.specs.List.Sorted.{IsPartitionedBy};
-ghost use Rattle.mc_queue.specs.Places.{is_before, is_from};
+ghost use Rattle.mc_queue.specs.Places.{IsIndexAt, is_before, is_behind, is_from, is_from_at};
 ghost use Rattle.mc_queue.specs.Queue.{first_of, first_that, place_or, last_that, is_sync, is_sync_before, is_sync_from, is_sync_upto};
 
-use crate::place::is_before;
+use crate::place::{is_before, is_upto};
 use mc_packet::{Packet, Pos};
 use std::collections::VecDeque;
 
-/// The first packet at or behind a place, found by halving: those before it stand in front.
+/// How many packets at the end are looked at one by one, before a place is found by halving.
+const NEAR: usize = 4;
+
+fn is_from_at(packet: Option<&Packet>, head: Pos) -> bool
+    ensures { result ≡ is_from_at (rank head) (option_copied packet.entry) }
+{
+    match packet {
+        Some(packet) => is_upto(head, packet.pos),
+        None => false,
+    }
+}
+
+/// Whether there is a packet in front of an index, and it stands at a place or behind it.
+fn is_behind(packets: &VecDeque<Packet>, at: usize, head: Pos) -> bool
+    ensures { result ≡ is_behind (rank head) at packets.now.items }
+{
+    at > 0 && is_from_at(get_at(packets, at - 1), head)
+}
+
+/// The index from which on packets stand at a place or behind it. The last packets are tried first,
+/// since a reader that reads what was just fed is there; then it is found by halving.
+pub(crate) fn index_at(packets: &VecDeque<Packet>, head: Pos) -> usize
+    requires parted { IsPartitionedBy (is_before (rank head)) packets.now.items }
+    ensures { IsIndexAt (rank head) result packets.now.items }
+{
+    let mut at = packets.len();
+    for _ in 0..NEAR {
+        if !is_behind(packets, at, head) {
+            return at;
+        }
+        at -= 1;
+    }
+    packets.partition_point(|p| is_before(p.pos, head))
+}
+
+/// The first packet at or behind a place.
 pub(crate) fn first_at(packets: &VecDeque<Packet>, head: Pos) -> Option<&Packet>
     requires parted { IsPartitionedBy (is_before (rank head)) packets.now.items }
     ensures { option_copied result ≡ find (is_from (rank head)) packets.now.items }
 {
-    get_at(packets, packets.partition_point(|p| is_before(p.pos, head)))
+    get_at(packets, index_at(packets, head))
 }
 
 pub(crate) fn get_at(packets: &VecDeque<Packet>, at: usize) -> Option<&Packet>

@@ -1,11 +1,7 @@
-use Rattle.std.proofs.Common.{rules, of_calls, ◌∙◌}
-use Rattle.std.proofs.lemmas.List.Sorted.{IsPartitionPoint-from_clause}
+use Rattle.std.proofs.Common.{◌∙◌}
 use Rattle.mc_journal.specs.Films.{rank}
-use Rattle.mc_queue.specs.Places.{is_before}
 use Rattle.mc_queue.proofs.Halving.{found_at}
 use Rattle.mc_queue.proofs.lookups.first_at.Goals as goal
 
 pub returns : goal.returns
-returns c =
-    let point = IsPartitionPoint-from_clause (is_before (rank c.args.head)) c.args.packets.now.items c.partition_point.result c.partition_point.ensures.partitioned c.requires.parted (λ a r f k. search (rules, of_calls)) in
-    c.get_at.ensures ∙ found_at (rank c.args.head) c.args.packets.now.items c.partition_point.result point.0 point.1
+returns c = c.get_at.ensures ∙ found_at (rank c.args.head) c.args.packets.now.items c.index_at.result c.index_at.ensures.0 c.index_at.ensures.1

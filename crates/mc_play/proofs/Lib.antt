@@ -2,4 +2,5 @@
 pub mod Texts
 pub mod Stops
 pub mod Endings
+pub mod Completing
 pub mod Plays

@@ -4,3 +4,4 @@ pub mod Texts
 pub mod Asked
 pub mod Opening
 pub mod Run
+pub mod Completing

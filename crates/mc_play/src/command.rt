@@ -3,6 +3,7 @@ ghost use Rattle.std.specs.List.{list_any};
 ghost use Rattle.mc_script.specs.Options.{run_line};
 ghost use Rattle.mc_script.specs.RunLines.{AreLimits, IsWithin};
 ghost use Rattle.mc_play.specs.Asked.{Stopped};
+ghost use Rattle.mc_play.specs.Completing.{Completes};
 ghost use Rattle.mc_play.specs.Run.{Ends, Stepped, WriteFits, Written, WroteWell, exit_for, halt_exit, is_failed, is_starved, shelf_exit, write_exit};
 
 use crate::opening::{open_film, read_script};
@@ -122,6 +123,9 @@ fn exit_of(
 /// exactly where nothing came before; with `Shelf` only where the shelf's count of faults rose, or it
 /// lacks a file that the words name; with `Sink` only where the sink's count rose; and with `JournalFull`
 /// where the journal has 16,000,000 records. A cut or damaged film is no fault: its ending is told.
+///
+/// Where none of these causes is there, it ends with `Done` or for want of memory; and at `Done` every
+/// line of the script was played, and each `drain` told the reader of each selected track its end.
 pub fn run<D: Shelf, K: Sink>(
     alloc: Global,
     words: &[String],
@@ -130,6 +134,7 @@ pub fn run<D: Shelf, K: Sink>(
 ) -> RunReport
     ensures ends { Ends (D.files shelf.old) (map string_bytes words.now) (run_line (map string_bytes words.now)) (record { shelf_before = D.faults shelf.old; shelf_now = D.faults shelf.new; sink_before = K.faults out.old; sink_now = K.faults out.new }) result.hd result.exit }
     ensures written { Written (K.text out.old) (K.text out.new) result.hd result.exit }
+    ensures complete { Completes (D.files shelf.old) (map string_bytes words.now) (run_line (map string_bytes words.now)) (record { shelf_before = D.faults shelf.old; shelf_now = D.faults shelf.new; sink_before = K.faults out.old; sink_now = K.faults out.new }) result.hd result.exit }
 {
     let before = shelf.fault_count();
     let Some(line) = parse_run_line(words) else {

@@ -1,4 +1,5 @@
 use Rattle.std.proofs.Common.{sym}
+use Rattle.mc_play.proofs.Completing.{completes}
 use Rattle.mc_play.proofs.Endings.{run_ends, run_written}
 use Rattle.mc_play.proofs.command.run.Goals as goal
 
@@ -19,3 +20,6 @@ returns-clause-written g c =
     let wrote = c.write_out-wrote in
     rw (c.exit_of-exit.ensures, c.as_slice.ensures)
     (run_written (g.K.Sink.text c.args.out.now) (g.K.Sink.text wrote.new.out) played.hd played.halt wrote.result c.fault_count-before.result c.fault_count-after.result wrote.ensures.written)
+
+pub returns-clause-complete : goal.returns-clause-complete
+returns-clause-complete g c = completes _ _ _ _ _ _ (returns-clause-ends g c)

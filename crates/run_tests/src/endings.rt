@@ -54,6 +54,12 @@ fn cut_before_the_clusters(rt: HostRuntime) -> Result<(), Fail> {
             Err(FilmError::Refused(refused)),
             "cut to {len}"
         );
+        let (exit, text) = ran(rt.alloc(), &["run", "film.mkv"], &film, None, None)?;
+        assert_eq!(rt;
+            (exit, text.len()),
+            (Exit::File(refused), 0),
+            "cut to {len}"
+        );
     }
     Ok(())
 }

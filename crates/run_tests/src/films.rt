@@ -92,6 +92,25 @@ give 2 at 214.0 time 270000000 len 1 sum 41 sync
 give 1 at 221.0 time 280000000 len 1 sum 23 inter
 ";
 
+/// The lines of the packets of `PLAIN`'s second Cluster.
+pub const SECOND: &str = "\
+give 1 at 143.0 time 120000000 len 1 sum 19 sync
+give 2 at 150.0 time 120000000 len 1 sum 36 sync
+give 2 at 157.0 time 150000000 len 1 sum 37 sync
+give 1 at 164.0 time 160000000 len 1 sum 20 inter
+give 2 at 171.0 time 180000000 len 1 sum 38 sync
+give 1 at 178.0 time 200000000 len 1 sum 21 inter
+give 2 at 185.0 time 210000000 len 1 sum 39 sync
+";
+
+/// Those of its third.
+pub const THIRD: &str = "\
+give 1 at 200.0 time 240000000 len 1 sum 22 sync
+give 2 at 207.0 time 240000000 len 1 sum 40 sync
+give 2 at 214.0 time 270000000 len 1 sum 41 sync
+give 1 at 221.0 time 280000000 len 1 sum 23 inter
+";
+
 /// The lines of `USUAL`'s packets.
 pub const USUAL_GIVEN: &str = "\
 give 1 at 130.0 time 0 len 1 sum 16 sync
@@ -112,4 +131,16 @@ give 1 at 256.0 time 240000000 len 1 sum 22 sync
 give 2 at 263.0 time 240000000 len 1 sum 40 sync
 give 2 at 270.0 time 270000000 len 1 sum 41 sync
 give 1 at 277.0 time 280000000 len 1 sum 23 inter
+";
+
+/// The last lines of a run that reads tracks 1 and 2 to a clean end.
+pub const CLEAN: &str = "end 1 clean\nend 2 clean\n";
+
+/// The lines of `SHORT`'s packets, and its end.
+pub const SHORT_WHOLE: &str = "\
+give 1 at 66.0 time 0 len 1 sum 16 sync
+give 1 at 73.0 time 40000000 len 1 sum 17 inter
+give 1 at 80.0 time 80000000 len 1 sum 18 sync
+give 1 at 87.0 time 120000000 len 1 sum 19 inter
+end 1 clean
 ";

@@ -1,21 +1,12 @@
 //! Runs of scripts over films in memory: what they print, and which are refused.
 
-use crate::films::{GIVEN, PLAIN, SHORT, SWITCHED};
-use crate::support::{begins_with, ran_script};
+use crate::films::{CLEAN, GIVEN, PLAIN, SHORT, SHORT_WHOLE, SWITCHED};
+use crate::support::{ROSE, begins_with, ran_script};
 use mc_script::{Exit, ScriptWhy, ShelfCause};
 use std::alloc::Global;
 use std::test::Fail;
 
-/// The lines of `SHORT`'s packets, and its end.
-const WHOLE: &str = "\
-give 1 at 66.0 time 0 len 1 sum 16 sync
-give 1 at 73.0 time 40000000 len 1 sum 17 inter
-give 1 at 80.0 time 80000000 len 1 sum 18 sync
-give 1 at 87.0 time 120000000 len 1 sum 19 inter
-end 1 clean
-";
-
-/// What is printed behind that, of scripts which read the whole film first.
+/// What is printed behind the whole of `SHORT`, of scripts which read it first.
 const BEHIND: [(&str, &str); 7] = [
     ("drain", ""),
     ("# nothing\r\n\n \tdrain", ""),
@@ -58,7 +49,7 @@ refused no-track
 #[test]
 fn behind_a_drain(rt: HostRuntime) -> Result<(), Fail> {
     for (script, behind) in BEHIND {
-        let wanted = format!(in rt.alloc(); "{WHOLE}{behind}")?;
+        let wanted = format!(in rt.alloc(); "{SHORT_WHOLE}{behind}")?;
         let words = ["run", "film.mkv", "script"];
         let (exit, text) = ran_script(rt.alloc(), &words, &SHORT, script.as_bytes(), None)?;
         assert_eq!(rt; exit, Exit::Done, "{script}");
@@ -77,8 +68,6 @@ fn gives(alloc: Global, numbers: &[usize]) -> Result<String, Fail> {
     }
     Ok(text)
 }
-
-const CLEAN: &str = "end 1 clean\nend 2 clean\n";
 
 /// Scripts over `PLAIN`: what is said, then the packets that are given, and how it ends.
 const PLAYED: [(&str, &str, &[usize], &str); 7] = [
@@ -172,8 +161,9 @@ fn switches(rt: HostRuntime) -> Result<(), Fail> {
 }
 
 // Scripts outside the grammar: the first bad line, and why it is. The lines before it are not played.
-const OUTSIDE: [(&[u8], u32, ScriptWhy); 8] = [
+const OUTSIDE: [(&[u8], u32, ScriptWhy); 9] = [
     (b"play", 1, ScriptWhy::Word),
+    (b"seek 0.2\ndrain\ndance", 3, ScriptWhy::Word),
     (b"drain\n\n# seek\nseek", 4, ScriptWhy::Word),
     (b"drain\ndemux give", 2, ScriptWhy::Word),
     (b"demux take\ndrain", 2, ScriptWhy::Word),
@@ -221,12 +211,6 @@ fn missing_files(rt: HostRuntime) -> Result<(), Fail> {
     }
     Ok(())
 }
-
-// A read failed once.
-const ROSE: Exit = Exit::Shelf(ShelfCause::Rose {
-    before: 0,
-    after: 1,
-});
 
 #[test]
 fn a_script_that_cannot_be_read(rt: HostRuntime) -> Result<(), Fail> {

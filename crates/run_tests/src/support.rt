@@ -4,9 +4,18 @@ use mc_film::{FilmError, film};
 use mc_outside::{MemShelf, MemSink, NamedFile, NamedFiles, Numbers, Spots};
 use mc_packet::Ending;
 use mc_play::run;
-use mc_script::Exit;
+use mc_script::{Exit, ShelfCause};
 use std::alloc::Global;
 use std::test::Fail;
+
+/// The words that run a script over a film.
+pub const RUN: &[&str] = &["run", "film.mkv", "script"];
+
+/// How a run ends in which one read failed.
+pub const ROSE: Exit = Exit::Shelf(ShelfCause::Rose {
+    before: 0,
+    after: 1,
+});
 
 /// The first octets of a film, with some of them changed.
 pub fn changed(
@@ -79,6 +88,16 @@ pub fn ran(
     run_over(alloc, words, &mut shelf, bad)
 }
 
+// A shelf with a film, which is file 0, and a script.
+fn shelf_of_both(
+    alloc: Global,
+    octets: &[u8],
+    script: &[u8],
+    spot: Option<(u32, u64)>,
+) -> Result<MemShelf, Fail> {
+    shelf_with(alloc, &[("film.mkv", octets), ("script", script)], spot)
+}
+
 /// The same where the shelf has a script too, behind the film; the read of the octet at a spot of the
 /// film, which is file 0, or of the script fails.
 pub fn ran_script(
@@ -88,9 +107,20 @@ pub fn ran_script(
     script: &[u8],
     spot: Option<(u32, u64)>,
 ) -> Result<(Exit, Vec<u8>), Fail> {
-    let named = [("film.mkv", octets), ("script", script)];
-    let mut shelf = shelf_with(alloc, &named, spot)?;
+    let mut shelf = shelf_of_both(alloc, octets, script, spot)?;
     run_over(alloc, words, &mut shelf, None)
+}
+
+/// The same where no read fails, but the write of this number, counted from 0.
+pub fn wrote_script(
+    alloc: Global,
+    words: &[&str],
+    octets: &[u8],
+    script: &[u8],
+    bad: u64,
+) -> Result<(Exit, Vec<u8>), Fail> {
+    let mut shelf = shelf_of_both(alloc, octets, script, None)?;
+    run_over(alloc, words, &mut shelf, Some(bad))
 }
 
 /// How many packets a film has and how it ends.
@@ -109,4 +139,26 @@ pub fn prints(alloc: Global, octets: &[u8], given: &str, ends: &str) -> Result<b
 /// Whether a text begins with another.
 pub fn begins_with(text: &[u8], front: &[u8]) -> bool {
     text.len() >= front.len() && text.iter().zip(front).all(|(a, b)| a == b)
+}
+
+/// Texts, one behind the other.
+pub fn joined(alloc: Global, parts: &[&str]) -> Result<String, Fail> {
+    let mut text = String::new(alloc);
+    for part in parts {
+        text.push_str(part)?;
+    }
+    Ok(text)
+}
+
+/// The lines of a text that begin with one of these words.
+pub fn lines_of(alloc: Global, text: &[u8], words: &[&str]) -> Result<String, Fail> {
+    let mut kept = String::new(alloc);
+    for line in str::from_utf8(text)?.lines() {
+        let front = line.as_bytes();
+        if words.iter().any(|word| begins_with(front, word.as_bytes())) {
+            kept.push_str(line)?;
+            kept.push_str("\n")?;
+        }
+    }
+    Ok(kept)
 }

@@ -26,6 +26,7 @@ use Rattle.mc_script.specs.declared.exit.Exit.TheVariants as exits
 use Rattle.mc_script.specs.declared.exit.ShelfCause.{ShelfCause}
 use Rattle.mc_script.specs.declared.exit.ShelfCause.TheVariants as causes
 use Rattle.mc_script.specs.declared.options.RunLine.{RunLine}
+use Rattle.mc_world.specs.Filmed.{film_for}
 use Rattle.mc_script.specs.Plays.{Leaves, Played, Readings, reader, selection, still_left, taken_after, tells_reader}
 use Rattle.mc_play.specs.Asked.{CausedBy, FileIs, ScriptIs, ScriptIsRefused, name_at}
 use Rattle.mc_play.specs.Run.{Counts, Ends, EndsLine, Plays, Stepped, is_failed, is_starved}
@@ -199,7 +200,7 @@ fulfils_done (Some files) words line before now hd s f w =
           film.2.1,
           λ are.
               let plays = film.2.2 are in
-              played_out _ s.lines None _ hd plays.runs (quiet _ _ hd plays.used f w),
+              played_out _ s.lines None _ hd plays.runs (quiet (film_for film.2.0) line.limits hd plays.used f w),
         ),
       ),
     )

@@ -62,8 +62,19 @@ fn words(rt: &HostRuntime) -> Option<Vec<String>> {
     Some(words)
 }
 
+// What a packet of a usual film has at most, in octets.
+const LARGE: usize = 16_777_216;
+
+// Takes a large block and gives it back. From then on glibc's allocator has room for large packets in
+// its heap, and no longer maps and unmaps each by itself, page by page. It is as well without.
+fn keep_packets_in_the_heap(rt: &HostRuntime) {
+    let mut block: Vec<u8> = Vec::new(rt.alloc());
+    let _ = block.reserve(LARGE);
+}
+
 // Carries out the words, and says on standard error why they came to nothing.
 fn perform(rt: &HostRuntime, words: &[String]) -> io::Result<u8> {
+    keep_packets_in_the_heap(rt);
     let mut shelf = FileShelf::new(rt, rt.alloc());
     let mut out = StdSink::new(io::writer(rt));
     let report = run(rt.alloc(), words, &mut shelf, &mut out);

@@ -54,12 +54,19 @@ PY
     done | sort -n | awk '{ t[NR] = $1; if (NR == 1 || $2 < p) p = $2 } END { print t[1], t[int((NR + 1) / 2)], p }'
 }
 
-# the octets that the reads of a run gave
+# the octets that the reads of a run with the least limits gave
 octets() {
-    local log=$scripts/log
-    command -v strace >/dev/null || { echo 0; return; }
-    strace -f -e trace=read,pread64 -o "$log" "$program" run "$@" >/dev/null
-    awk '$NF ~ /^[0-9]+$/ && $(NF - 1) == "=" { n += $NF } END { print n + 0 }' "$log"
+    strace -f -e trace=read,pread64 -o "$scripts/log" "$program" run "${nothing[@]}" "$film" "$1" >/dev/null
+    awk '$NF ~ /^[0-9]+$/ && $(NF - 1) == "=" { n += $NF } END { print n + 0 }' "$scripts/log"
+}
+
+# octets_each SCRIPT BEFORE TIMES: those of one of so many seeks, without those of the script before
+octets_each() {
+    if command -v strace >/dev/null; then
+        echo "$((($(octets "$1") - $(octets "$2")) / $3))"
+    else
+        echo -
+    fi
 }
 
 # report NAME TIMES BEFORE TIMES_BEFORE OCTETS: microseconds of one of so many, without those of the run before
@@ -88,7 +95,7 @@ fi
 
 # a script without a seek that is as long as the one with them, since both are read; then one seek
 # behind the film's end, which has the index see all of it, and then seeks at random
-{ printf 'seek %.3f\ndemux 2\n' "$(awk -v l="$last" 'BEGIN { print l / 1e9 }')"; } >"$scripts/first"
+awk -v last="$last" 'BEGIN { printf "seek %.3f\ndemux 2\n", last / 1e9 }' >"$scripts/first"
 { cat "$scripts/first"; at_random "$least" "$last" "demux 2"; } >"$scripts/least"
 sed 's/^./#/' "$scripts/first" >"$scripts/none"
 { cat "$scripts/first"; at_random "$least" "$last" "demux 2" | sed 's/^./#/'; } >"$scripts/one"
@@ -97,12 +104,8 @@ echo "$film: $(stat -c %s "$film") octets, $packets packets, $(nproc) cores, $ru
 echo '| Seeks | Microseconds, least | Microseconds, median | Microseconds of processor time | Octets that the system read |'
 echo '|---|---|---|---|---|'
 report "each of $seeks, all in the cache" "$seeks" "$(measure "${everything[@]}" "$film" "$scripts/cached")" \
-    "$(measure "${everything[@]}" "$film" "$scripts/drain")" 0
-before=$(octets "${nothing[@]}" "$film" "$scripts/none")
-first=$(octets "${nothing[@]}" "$film" "$scripts/first")
+    "$(measure "${everything[@]}" "$film" "$scripts/drain")" -
 report "a first one, at the end, least limits" 1 "$(measure "${nothing[@]}" "$film" "$scripts/first")" \
-    "$(measure "${nothing[@]}" "$film" "$scripts/none")" "$((first - before))"
-before=$(octets "${nothing[@]}" "$film" "$scripts/one")
-all=$(octets "${nothing[@]}" "$film" "$scripts/least")
+    "$(measure "${nothing[@]}" "$film" "$scripts/none")" "$(octets_each "$scripts/first" "$scripts/none" 1)"
 report "each of $least behind it, least limits" "$least" "$(measure "${nothing[@]}" "$film" "$scripts/least")" \
-    "$(measure "${nothing[@]}" "$film" "$scripts/one")" "$(((all - before) / least))"
+    "$(measure "${nothing[@]}" "$film" "$scripts/one")" "$(octets_each "$scripts/least" "$scripts/one" "$least")"

@@ -53,13 +53,17 @@ status: 0 done, 1 out of memory, 2 usage, 3 cannot read, 4 cannot write, 5 film 
   6 script refused, 7 journal full
 ";
 
-// The words behind the program's name; `None` where one of them is no text.
-fn words(rt: &HostRuntime) -> Option<Vec<String>> {
+// The words behind the program's name: no usage where one of them is no text.
+fn words(rt: &HostRuntime) -> Result<Vec<String>, Exit> {
+    let given = env::args(rt).map_err(|error| match error.kind() {
+        io::ErrorKind::OutOfMemory => Exit::NoMemory,
+        _ => Exit::Usage,
+    })?;
     let mut words = Vec::new(rt.alloc());
-    for word in env::args(rt).ok()?.skip(1) {
-        words.push(word).ok()?;
+    for word in given.skip(1) {
+        words.push(word).map_err(|_| Exit::NoMemory)?;
     }
-    Some(words)
+    Ok(words)
 }
 
 // What a packet of a usual film has at most, in octets.
@@ -90,8 +94,8 @@ fn complain(rt: &HostRuntime, exit: Exit) -> io::Result<u8> {
 
 fn main(rt: HostRuntime) -> ExitCode {
     let ended = match words(&rt) {
-        None => complain(&rt, Exit::Usage),
-        Some(words) => match words.as_slice() {
+        Err(exit) => complain(&rt, exit),
+        Ok(words) => match words.as_slice() {
             [word] if word.as_str() == "--help" => print!(rt; "{HELP}").map(|()| 0),
             [word] if word.as_str() == "--version" => println!(rt; "mcplay 0.1.0").map(|()| 0),
             words => perform(&rt, words),

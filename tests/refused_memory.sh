@@ -4,6 +4,9 @@
 # with status 1 and 'mcplay: out of memory'. What it printed is then a front of the undisturbed text, in
 # whole lines; or a line 'starved' stands in it, and it is such a front up to there, since a want of
 # memory to read on is told to the readers, and the script goes on.
+# Then, where 'rt ci' or 'rt test' built them, the tests of mc_demux whose table repeats each call that wants
+# memory: the second answer has to be the table's, so the first left the demuxer as it was; only where a
+# demuxer is opened a test ends with that want.
 # Usage: tests/refused_memory.sh [N...]; without N it takes all requests of each run. It needs a C
 # compiler, and is no part of .ci/run. 'rt try --fail-alloc N' refuses the same requests in a build with
 # checks; there N is a part of the program, so that each takes a build.
@@ -119,6 +122,27 @@ sweep() {
         "${counts[starved]} told a reader, ${counts[whole]} made no difference, ${counts[wrong]} went wrong"
 }
 
+# Runs the table of calls of a demuxer with each of its requests refused.
+table() {
+    local n all=0 said tests=$PWD/crates/mc_demux/out/mc_demux_tests name=tests::answers_by_the_rules these=("${numbers[@]}")
+    declare -A counts=([ok]=0 [open]=0 [wrong]=0)
+    [ -x "$tests" ] || { echo "refused memory: no $tests, so no table of calls"; return; }
+    (REFUSED=0 COUNTED=$folder/counted LD_PRELOAD=$folder/refuse.so "$tests" "$name" >"$folder/text" 2>&1) && all=$(cat "$folder/counted")
+    [ ${#these[@]} -gt 0 ] || mapfile -t these < <(seq "$all")
+    for n in "${these[@]}"; do
+        said=$(REFUSED=$n LD_PRELOAD=$folder/refuse.so "$tests" "$name" 2>&1 | tail -n 1)
+        case $said in
+        "test result: ok") came=ok ;;
+        *"its result gives status 1") came=open ;;
+        *) came=wrong ;;
+        esac
+        counts[$came]=$((counts[$came] + 1))
+    done
+    passed=$((passed + counts[ok] + counts[open]))
+    failed=$((failed + counts[wrong] + (all == 0)))
+    echo "calls of a demuxer: of $all requests for memory ${#these[@]} refused: ${counts[ok]} answered by the table, ${counts[open]} while opening, ${counts[wrong]} went wrong"
+}
+
 film PLAIN
 film SWITCHED
 printf 'demux 2\nread video\nread audio\nseek 0\n' >"$folder/forget"
@@ -127,5 +151,6 @@ printf 'demux 7\nseek 0.24\ndemux 6\nseek 0\ndemux 8\nshow\n' >"$folder/join"
 sweep --back=0 PLAIN forget
 sweep SWITCHED switch
 sweep PLAIN join
+table
 echo "refused memory: $passed passed, $failed failed"
 [ "$failed" -eq 0 ]

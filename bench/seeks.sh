@@ -8,7 +8,7 @@ cd "$(dirname "$0")/.." || exit 1
 program=crates/mcplay/out/mcplay
 runs=${RUNS:-3}
 seeks=${SEEKS:-10000}
-least=${LEAST:-200}
+least=${LEAST:-2000}
 film=${1:-bench/films/about-1000MB.mkv}
 everything=(--forward=1073741824 --back=1073741824)
 nothing=(--forward=1 --back=0 --readahead=0)

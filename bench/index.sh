@@ -10,14 +10,9 @@ looks=${LOOKS:-1000}
 film=${1:-bench/films/about-1000MB.mkv}
 [ -x "$program" ] || { echo "no $program: build index_bench first"; exit 1; }
 
-if [ ! -f "$film" ]; then
-    command -v ffmpeg >/dev/null || { echo "no ffmpeg to make a film with"; exit 1; }
-    mkdir -p "$(dirname "$film")"
-    echo "making $film"
-    # small pictures and PCM, for 82 minutes
-    ffmpeg -v error -y -f lavfi -i testsrc2=size=160x120:rate=25 -f lavfi -i sine=frequency=440:sample_rate=48000 \
-        -t 4900 -c:v mpeg2video -q:v 2 -g 12 -c:a pcm_s16le "$film" || exit 1
-fi
+# shellcheck source=bench/films.sh
+. bench/films.sh
+make_long_film "$film"
 
 # the calls of the system, and the octets that its reads gave, at one task
 count() {

@@ -14,14 +14,9 @@ everything=(--forward=1073741824 --back=1073741824)
 nothing=(--forward=1 --back=0 --readahead=0)
 [ -x "$program" ] || { echo "no $program: run 'rt ci' or './mcplay --version' first"; exit 1; }
 
-if [ ! -f "$film" ]; then
-    command -v ffmpeg >/dev/null || { echo "no ffmpeg to make a film with"; exit 1; }
-    mkdir -p "$(dirname "$film")"
-    echo "making $film"
-    # small pictures and PCM, for 82 minutes
-    ffmpeg -v error -y -f lavfi -i testsrc2=size=160x120:rate=25 -f lavfi -i sine=frequency=440:sample_rate=48000 \
-        -t 4900 -c:v mpeg2video -q:v 2 -g 12 -c:a pcm_s16le "$film" || exit 1
-fi
+# shellcheck source=bench/films.sh
+. bench/films.sh
+make_long_film "$film"
 
 scripts=$(mktemp -d) || exit 1
 trap 'rm -rf "$scripts"' EXIT

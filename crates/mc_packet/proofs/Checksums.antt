@@ -1,7 +1,7 @@
 -- A checksum several octets at a time.
-use Rattle.std.proofs.Common.{◌≡◌, ℕ, ◌+◌, ◌*◌, ◌/◌, ◌%◌, ◌^◌, [], ◌∷◌, sym, ap, ◌∙◌, arith}
-use Rattle.std.proofs.Math.Nat.{mod-add-div', add-mul-mod_self_right}
-use Rattle.mc_packet.specs.Payload.{checksum_from}
+use Rattle.std.proofs.Common.{◌≡◌, ℕ, ◌+◌, ◌*◌, ◌/◌, ◌%◌, ◌^◌, ◌<◌, List, [], ◌∷◌, length, sym, ap, ◌∙◌, arith}
+use Rattle.std.proofs.Math.Nat.{mod-add-div', add-mul-mod_self_right, mod-eq_of_lt}
+use Rattle.mc_packet.specs.Payload.{checksum_from, polynomial}
 
 -- a step needs no more of the sum before it than its remainder
 mod_step : (x b : ℕ) → (x % 2 ^ 32 * 31 + b) % 2 ^ 32 ≡ (x * 31 + b) % 2 ^ 32
@@ -10,28 +10,42 @@ mod_step x b =
     let split : x * 31 + b ≡ (x % 2 ^ 32 * 31 + b) + x / 2 ^ 32 * 31 * 2 ^ 32 = omega (arith, whole) in
     sym (ap (λ (n : ℕ). n % 2 ^ 32) split ∙ add-mul-mod_self_right (x % 2 ^ 32 * 31 + b) (x / 2 ^ 32 * 31) (2 ^ 32))
 
--- the same of two steps, where the first stands for any number of them
-mod_more : (s x b : ℕ) → s ≡ x % 2 ^ 32 → (s * 31 + b) % 2 ^ 32 ≡ (x * 31 + b) % 2 ^ 32
-mod_more s x b e = ap (λ (n : ℕ). (n * 31 + b) % 2 ^ 32) e ∙ mod_step x b
+-- so the remainder may be taken at the end, of one octet and more
+pub from_polynomial : (s b : ℕ) (bs : List ℕ) → checksum_from (s % 2 ^ 32) (b ∷ bs) ≡ polynomial s (b ∷ bs) % 2 ^ 32
+from_polynomial s b [] = mod_step s b
+from_polynomial s b (c ∷ bs) = ap (λ (n : ℕ). checksum_from n (c ∷ bs)) (mod_step s b) ∙ from_polynomial (s * 31 + b) c bs
 
-pub eight_steps : (s a b c d e f g h : ℕ) → checksum_from s (a ∷ b ∷ c ∷ d ∷ e ∷ f ∷ g ∷ h ∷ [])
-    ≡ (s * 2487512833 + (a * 27512614111 + b * 887503681 + c * 28629151 + d * 923521) + (e * 29791 + f * 961 + g * 31 + h)) % 2 ^ 32
-eight_steps s a b c d e f g h =
-    let one = s * 31 + a in
-    let two = one * 31 + b in
-    let three = two * 31 + c in
-    let four = three * 31 + d in
-    let five = four * 31 + e in
-    let six = five * 31 + f in
-    let seven = six * 31 + g in
-    let eight = seven * 31 + h in
-    let after_two = mod_step one b in
-    let after_three = mod_more _ two c after_two in
-    let after_four = mod_more _ three d after_three in
-    let after_five = mod_more _ four e after_four in
-    let after_six = mod_more _ five f after_five in
-    let after_seven = mod_more _ six g after_six in
-    let after_eight = mod_more _ seven h after_seven in
-    let few = s * 2487512833 + (a * 27512614111 + b * 887503681 + c * 28629151 + d * 923521) + (e * 29791 + f * 961 + g * 31 + h) in
-    let split : eight ≡ few + s * 198 * 2 ^ 32 = omega arith in
-    after_eight ∙ ap (λ (n : ℕ). n % 2 ^ 32) split ∙ add-mul-mod_self_right few (s * 198) (2 ^ 32)
+-- eight octets behind some others, whose polynomial 31^8 multiplies
+behind_eight : (s : ℕ) (bs : List ℕ) → length bs ≡ 8 → checksum_from (s % 2 ^ 32) bs ≡ (s * 852891037441 + polynomial 0 bs) % 2 ^ 32
+behind_eight s [] long = absurd (omega (arith, long))
+behind_eight s (a ∷ []) long = absurd (omega (arith, long))
+behind_eight s (a ∷ b ∷ []) long = absurd (omega (arith, long))
+behind_eight s (a ∷ b ∷ c ∷ []) long = absurd (omega (arith, long))
+behind_eight s (a ∷ b ∷ c ∷ d ∷ []) long = absurd (omega (arith, long))
+behind_eight s (a ∷ b ∷ c ∷ d ∷ e ∷ []) long = absurd (omega (arith, long))
+behind_eight s (a ∷ b ∷ c ∷ d ∷ e ∷ f ∷ []) long = absurd (omega (arith, long))
+behind_eight s (a ∷ b ∷ c ∷ d ∷ e ∷ f ∷ g ∷ []) long = absurd (omega (arith, long))
+behind_eight s (a ∷ b ∷ c ∷ d ∷ e ∷ f ∷ g ∷ h ∷ []) long =
+    from_polynomial s a (b ∷ c ∷ d ∷ e ∷ f ∷ g ∷ h ∷ []) ∙ ap (λ (n : ℕ). n % 2 ^ 32) (omega arith)
+behind_eight s (a ∷ b ∷ c ∷ d ∷ e ∷ f ∷ g ∷ h ∷ i ∷ more) long = absurd (omega (arith, long))
+
+-- remainders of two products and of a sum, and that of all
+remainders : (x y q : ℕ) → ((x % 2 ^ 32 + y % 2 ^ 32) % 2 ^ 32 + q % 2 ^ 32) % 2 ^ 32 ≡ (x + y + q) % 2 ^ 32
+remainders x y q = omega arith
+
+pub sixteen_steps : (s : ℕ) (front back : List ℕ) (f b : ℕ) → s < 2 ^ 32 → length front ≡ 8 → length back ≡ 8
+    → f ≡ polynomial 0 front % 2 ^ 32 → b ≡ polynomial 0 back % 2 ^ 32
+    → ((s * 1353309697 % 2 ^ 32 + f * 2487512833 % 2 ^ 32) % 2 ^ 32 + b) % 2 ^ 32 ≡ checksum_from (checksum_from s front) back
+sixteen_steps s front back f b small long long' is is' =
+    let p = polynomial 0 front in
+    let q = polynomial 0 back in
+    let itself : s % 2 ^ 32 ≡ s = mod-eq_of_lt small in
+    let first : checksum_from s front ≡ (s * 852891037441 + p) % 2 ^ 32 = rw itself at (behind_eight s front long) in
+    let both : checksum_from (checksum_from s front) back ≡ ((s * 852891037441 + p) * 852891037441 + q) % 2 ^ 32
+    = ap (λ (n : ℕ). checksum_from n back) first ∙ behind_eight (s * 852891037441 + p) back long' in
+    let few : ((s * 1353309697 % 2 ^ 32 + f * 2487512833 % 2 ^ 32) % 2 ^ 32 + b) % 2 ^ 32 ≡ (s * 1353309697 + f * 2487512833 + q) % 2 ^ 32
+    = rw is' (remainders (s * 1353309697) (f * 2487512833) q) in
+    let whole : p % 2 ^ 32 + p / 2 ^ 32 * 2 ^ 32 ≡ p = mod-add-div' p (2 ^ 32) in
+    let split : (s * 852891037441 + p) * 852891037441 + q ≡ (s * 1353309697 + f * 2487512833 + q) + (s * 169366393645104 + p * 198 + p / 2 ^ 32 * 2487512833) * 2 ^ 32
+    = omega (arith, is, whole) in
+    few ∙ sym (both ∙ ap (λ (n : ℕ). n % 2 ^ 32) split ∙ add-mul-mod_self_right (s * 1353309697 + f * 2487512833 + q) (s * 169366393645104 + p * 198 + p / 2 ^ 32 * 2487512833) (2 ^ 32))

@@ -53,7 +53,7 @@ status: 0 done, 1 out of memory, 2 usage, 3 cannot read, 4 cannot write, 5 film 
   6 script refused, 7 journal full
 ";
 
-// The words behind the program's name: no usage where one of them is no text.
+// The words behind the program's name; `Usage` where one of them is no text.
 fn words(rt: &HostRuntime) -> Result<Vec<String>, Exit> {
     let given = env::args(rt).map_err(|error| match error.kind() {
         io::ErrorKind::OutOfMemory => Exit::NoMemory,

@@ -1,6 +1,6 @@
 #!/usr/bin/env bash
-# Times `mcplay run FILM` beside other readers of the same films, each as a ratio to `cat`, and
-# their peak memory; and counts mcplay's system calls, where strace is at hand. Usage:
+# Times `mcplay run FILM` beside other readers of the same films, which take turns, each as a ratio
+# to `cat`, and their peak memory; and counts mcplay's system calls, where strace is at hand. Usage:
 # bench/run.sh [FILM...]; without a film it makes two with ffmpeg in bench/films: one of about
 # 200 MB with large packets, and one of about 1.5 GB with 517,500 small ones. Tools that are missing
 # are skipped.
@@ -31,40 +31,18 @@ if [ ${#films[@]} -eq 0 ]; then
     for film in "${films[@]}"; do make_film "$film"; done
 fi
 
-# the median of the seconds of some runs, and the greatest resident memory in MB
-measure() {
-    for _ in $(seq "$runs"); do
-        /usr/bin/env python3 - "$@" <<'PY'
-import os, resource, subprocess, sys, time
-start = time.perf_counter()
-subprocess.run(sys.argv[1:], stdout=subprocess.DEVNULL, stderr=subprocess.DEVNULL, stdin=subprocess.DEVNULL)
-spent = time.perf_counter() - start
-print(f"{spent:.4f} {resource.getrusage(resource.RUSAGE_CHILDREN).ru_maxrss / 1024:.1f}")
-PY
-    done | sort -n | awk '{ t[NR] = $1; if ($2 > m) m = $2 } END { print t[int((NR + 1) / 2)], m }'
-}
-
-report() {
-    local name=$1
-    shift
-    read -r seconds memory < <(measure "$@")
-    ratio=$(awk -v a="$seconds" -v b="$base" 'BEGIN { printf "%.1f", a / b }')
-    printf '%-34s %9s s %7s x %9s MB\n' "$name" "$seconds" "$ratio" "$memory"
-}
-
 for film in "${films[@]}"; do
-    echo "$film: $(stat -c %s "$film") octets, $(nproc) cores, median of $runs runs"
-    read -r base _ < <(measure cat "$film")
-    report cat cat "$film"
-    report "mcplay run" "$program" run "$film"
-    command -v ffmpeg >/dev/null && report "ffmpeg -map 0 -c copy -f framecrc" ffmpeg -v error -i "$film" -map 0 -c copy -f framecrc -
-    command -v ffprobe >/dev/null && report "ffprobe -show_packets, checksums" ffprobe -v error -show_packets -show_data_hash CRC32 -of csv "$film"
+    echo "$film: $(stat -c %s "$film") octets, $(nproc) cores, least and median of $runs rounds"
+    at=$(printf %q "$film")
+    commands=(cat "cat $at" "mcplay run" "$program run $at")
+    command -v ffmpeg >/dev/null && commands+=("ffmpeg -map 0 -c copy -f framecrc" "ffmpeg -v error -i $at -map 0 -c copy -f framecrc -")
+    command -v ffprobe >/dev/null && commands+=("ffprobe -show_packets, checksums" "ffprobe -v error -show_packets -show_data_hash CRC32 -of csv $at")
     if command -v mkvextract >/dev/null; then
         # it wants a file of its own for each track, so /dev/null is spelled in as many ways
         tracks=$(mkvmerge -J "$film" | python3 -c 'import json,sys; print(" ".join("%d:/dev%s/null" % (t["id"], "/." * t["id"]) for t in json.load(sys.stdin)["tracks"]))')
-        # shellcheck disable=SC2086
-        report "mkvextract tracks" mkvextract "$film" tracks $tracks
+        commands+=("mkvextract tracks" "mkvextract $at tracks $tracks")
     fi
+    bench/rounds.py "$runs" "${commands[@]}"
     if command -v strace >/dev/null; then
         counts=$(mktemp)
         strace -c -f -o "$counts" "$program" run "$film" >/dev/null

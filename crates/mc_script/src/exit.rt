@@ -1,5 +1,5 @@
 ghost use Rattle.std.specs.Prelude.{◌≡◌};
-ghost use Rattle.mc_script.specs.Exits.{status_of};
+ghost use Rattle.mc_script.specs.Exits.{exit_text, refused_name, status_of, why_text};
 
 use crate::acts::ScriptWhy;
 use mc_journal::DemuxJournal;
@@ -64,18 +64,57 @@ pub struct RunReport {
 const USAGE: &str =
     "mcplay: usage: mcplay run [--forward=N] [--back=N] [--readahead=N] FILE [SCRIPT]";
 
+fn why_name(why: ScriptWhy) -> &'static str
+    ensures { result.now ≡ why_text why }
+{
+    match why {
+        ScriptWhy::Size => "Size",
+        ScriptWhy::Utf8 => "Utf8",
+        ScriptWhy::Word => "Word",
+        ScriptWhy::Number => "Number",
+    }
+}
+
+fn refused_name(refused: Refused) -> &'static str
+    ensures { result.now ≡ refused_name refused }
+{
+    match refused {
+        Refused::NotEbml => "NotEbml",
+        Refused::Version => "Version",
+        Refused::DocType => "DocType",
+        Refused::NoSegment => "NoSegment",
+        Refused::NoInfo => "NoInfo",
+        Refused::NoTracks => "NoTracks",
+        Refused::Broken(_) => "Broken",
+        Refused::NoNumber => "NoNumber",
+        Refused::TwiceNumber => "TwiceNumber",
+        Refused::ScaleZero => "ScaleZero",
+        Refused::TooMany => "TooMany",
+    }
+}
+
 /// The line that the program prints on standard error, without its end; nothing for `Done`.
 impl fmt::Display for Exit {
+    ghost use Rattle.std.specs.Prelude.{Some};
+
+    ghost output = { λ e. Some (exit_text e) };
+
     fn fmt<W: fmt::Write>(&self, f: &mut fmt::Formatter<W>) -> fmt::Result {
-        match self {
+        match *self {
             Exit::Done => Ok(()),
             Exit::NoMemory => f.write_str("mcplay: out of memory"),
             Exit::Usage => f.write_str(USAGE),
             Exit::Shelf(_) => f.write_str("mcplay: cannot read"),
             Exit::Sink => f.write_str("mcplay: cannot write"),
             Exit::File(Refused::Broken(at)) => write!(f, "mcplay: file refused: Broken {at}"),
-            Exit::File(refused) => write!(f, "mcplay: file refused: {refused:?}"),
-            Exit::Script { line, why } => write!(f, "mcplay: script line {line}: {why:?}"),
+            Exit::File(refused) => {
+                let name = refused_name(refused);
+                write!(f, "mcplay: file refused: {name}")
+            }
+            Exit::Script { line, why } => {
+                let name = why_name(why);
+                write!(f, "mcplay: script line {line}: {name}")
+            }
             Exit::JournalFull => f.write_str("mcplay: journal full"),
         }
     }

@@ -7,7 +7,7 @@ use Rattle.mc_packet.specs.declared.choice.Choice.{Choice}
 use Rattle.mc_packet.specs.declared.choice.Kind.{Kind}
 use Rattle.mc_packet.specs.declared.packet.Packet.{Packet}
 use Rattle.mc_journal.specs.declared.record.DemuxRecord.{DemuxRecord}
-use Rattle.mc_journal.specs.declared.record.DemuxRecord.TheVariants.{Gave, Ended, Overfull, Faulted, Wanting}
+use Rattle.mc_journal.specs.declared.record.DemuxRecord.TheVariants.{Ended, Overfull, Faulted, Wanting}
 use Rattle.mc_journal.specs.Films.{rank}
 use Rattle.mc_journal.specs.Told.{gave_by}
 use Rattle.mc_demux.specs.declared.answer.DemuxError.{DemuxError}
@@ -17,8 +17,6 @@ use Rattle.mc_demux.specs.declared.answer.Reading.TheVariants as reads
 use Rattle.mc_demux.specs.Records.{WroteAll}
 use Rattle.mc_script.specs.declared.acts.Act.TheVariants as acts
 use Rattle.mc_script.specs.Plays.{Asks, Begins, Leaves, May, Readings, caller, gaves, is_answer, is_gave, reader, selection, track_of}
-use Rattle.mc_lines.specs.declared.halt.Halt.{Halt}
-use Rattle.mc_lines.specs.declared.halt.Halt.TheVariants as halts
 use Rattle.mc_lines.specs.Calls.{Ahead, AnswersOn, Jobs, Reads, at}
 use Rattle.mc_lines.specs.Lines.{Orders, ReadsOn, ReadsOne, Stands, halt_of, halted, is_packet}
 use Rattle.mc_lines.proofs.Parts.{begin, more}

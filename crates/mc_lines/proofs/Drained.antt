@@ -1,5 +1,5 @@
 -- A drain, step by step.
-use Rattle.std.proofs.Common.{◌≡◌, ℕ, ◌-◌, ◌<◌, ◌≤◌, Bool, true, false, not, ◌==◌, List, [], ◌∷◌, ◌++◌, length, refl, sym, subst, ap, ◌∙◌, arith}
+use Rattle.std.proofs.Common.{◌≡◌, ℕ, ◌-◌, ◌<◌, Bool, true, false, not, ◌==◌, List, [], ◌∷◌, ◌++◌, length, refl, sym, subst, ap, ◌∙◌, arith}
 use Rattle.std.specs.Prelude.{Option, Some, None, Result, Ok, Err, IfSome, ◌||◌, ◌&&◌, if◌then◌else◌, is_some}
 use Rattle.std.specs.List.{list_any}
 use Rattle.mc_packet.specs.declared.choice.Kind.{Kind}
@@ -10,18 +10,18 @@ use Rattle.mc_journal.specs.Choices.{is_empty, nothing, or_else}
 use Rattle.mc_journal.specs.Films.{rank}
 use Rattle.mc_journal.specs.Told.{gave_by}
 use Rattle.mc_journal.specs.declared.record.DemuxRecord.{DemuxRecord}
-use Rattle.mc_journal.specs.declared.record.DemuxRecord.TheVariants.{Found, Fed, Failed, Starved, Gave, Ended, Faulted, Wanting}
+use Rattle.mc_journal.specs.declared.record.DemuxRecord.TheVariants.{Found, Fed, Failed, Starved, Ended, Faulted, Wanting}
 use Rattle.mc_demux.specs.declared.answer.DemuxError.{DemuxError}
 use Rattle.mc_demux.specs.declared.answer.DemuxError.TheVariants as errors
 use Rattle.mc_demux.specs.declared.answer.Reading.{Reading}
 use Rattle.mc_demux.specs.declared.answer.Reading.TheVariants as reads
 use Rattle.mc_demux.specs.Records.{HasRoom, WroteAll}
 use Rattle.mc_script.specs.declared.acts.Act.TheVariants as acts
-use Rattle.mc_script.specs.Plays.{Begins, Leaves, May, MayDrain, OfEach, Readings, caller, is_order, is_outcome, reader, selection, still_left, tells_reader, track_of, untold}
+use Rattle.mc_script.specs.Plays.{Begins, Leaves, May, OfEach, Readings, caller, is_order, is_outcome, reader, selection, still_left, tells_reader, track_of, untold}
 use Rattle.mc_script.specs.Plays.{IsNext, Next as Step, give, tell, turn}
 use Rattle.mc_lines.specs.declared.next.Next.{Next}
 use Rattle.mc_lines.specs.declared.next.Next.TheVariants as nexts
-use Rattle.mc_lines.specs.Calls.{Ahead, AnswersOn, AtRest, Outcome, Reads, Tells, at}
+use Rattle.mc_lines.specs.Calls.{Ahead, AnswersOn, AtRest, Reads, at}
 use Rattle.mc_lines.specs.declared.halt.Halt.{Halt}
 use Rattle.mc_lines.specs.declared.halt.Halt.TheVariants as halts
 use Rattle.mc_lines.specs.Lines.{Grows, ReadsOne, Stands, Turns}

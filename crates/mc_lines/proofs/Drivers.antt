@@ -1,7 +1,7 @@
 -- The driver's lines are one call each.
-use Rattle.std.proofs.Common.{◌≡◌, ℕ, ◌<◌, Bool, true, false, List, [], ◌∷◌, ◌++◌, length, reverse, refl, sym, subst, ap, ◌∙◌, inl, inr, arith, append_assoc}
+use Rattle.std.proofs.Common.{◌≡◌, ℕ, ◌<◌, Bool, true, false, List, [], ◌∷◌, ◌++◌, reverse, refl, sym, subst, ap, ◌∙◌, inl, inr, arith, append_assoc}
 use Rattle.std.proofs.lemmas.List.{append-nil, reverse-append}
-use Rattle.std.specs.Prelude.{ℤ, Option, Some, None, Result, Ok, Err, unwrap_or, ◌||◌, if◌then◌else◌, is_some}
+use Rattle.std.specs.Prelude.{ℤ, Option, Some, None, Result, Ok, Err, unwrap_or, if◌then◌else◌, is_some}
 use Rattle.std.specs.Option.{option_map}
 use Rattle.std.specs.List.{list_any, AllByRecursion}
 use Rattle.mc_packet.specs.declared.cache.CacheView.{CacheView}
@@ -19,11 +19,11 @@ use Rattle.mc_demux.specs.declared.answer.Selected.TheVariants.{Same, Changed}
 use Rattle.mc_demux.specs.Records.{IsExtra, WroteAll}
 use Rattle.mc_script.specs.declared.acts.Act.{Act}
 use Rattle.mc_script.specs.declared.acts.Act.TheVariants as acts
-use Rattle.mc_script.specs.Plays.{Begins, Each, EndsUnder, Ends, IsRepeated, Leaves, May, Readings, caller, is_order, is_outcome, newest, selection}
-use Rattle.mc_lines.specs.Calls.{Ahead, Fails, Jobs, Seeks, Selects, Shows, Switches, at, pending_of, switch_records}
+use Rattle.mc_script.specs.Plays.{Ends, IsRepeated, Leaves, May, Readings, caller, is_order, is_outcome, newest}
+use Rattle.mc_lines.specs.Calls.{Ahead, Fails, Jobs, Seeks, Selects, Shows, at, pending_of, switch_records}
 use Rattle.mc_lines.specs.Lines.{Line, Orders, settled}
-use Rattle.mc_lines.proofs.Counts.{any-call, any-one}
-use Rattle.mc_lines.proofs.Parts.{begin, call_each, ends_under-snoc, extras_each, none}
+use Rattle.mc_lines.proofs.Counts.{any-call}
+use Rattle.mc_lines.proofs.Parts.{call_each, extras_each, none}
 use Rattle.mc_lines.proofs.Growing.{orders_none, orders_quiet}
 
 -- a line of one call with one record of its own

@@ -1,10 +1,10 @@
 -- Lines one after the other.
-use Rattle.std.proofs.Common.{◌≡◌, ℕ, ◌+◌, ◌<◌, ◌≤◌, Bool, true, false, cond, List, [], ◌∷◌, ◌++◌, drop, length, refl, sym, subst, ap, ◌∙◌, inl, inr, arith, append_assoc}
+use Rattle.std.proofs.Common.{◌≡◌, ℕ, ◌<◌, ◌≤◌, Bool, true, false, List, [], ◌∷◌, ◌++◌, drop, length, refl, sym, subst, ap, ◌∙◌, inl, inr, arith, append_assoc}
 use Rattle.std.proofs.lemmas.Bool.{cases_Bool}
 use Rattle.std.proofs.lemmas.List.{append-nil}
 use Rattle.std.proofs.lemmas.List.Folds.{list_any-append}
 use Rattle.std.proofs.Math.Seq.{drop-append_seam}
-use Rattle.std.specs.Prelude.{Option, Some, None, Result, Ok, Err, IfSome, ◌||◌, not, ⊤}
+use Rattle.std.specs.Prelude.{Option, Some, None, Result, Ok, Err, ◌||◌, not, ⊤}
 use Rattle.std.specs.List.{list_any}
 use Rattle.mc_journal.specs.declared.record.DemuxRecord.{DemuxRecord}
 use Rattle.mc_journal.specs.declared.record.DemuxRecord.TheVariants.{Found, Fed, Failed, Starved}
@@ -15,17 +15,16 @@ use Rattle.mc_demux.specs.declared.answer.Taken.TheVariants as takens
 use Rattle.mc_demux.specs.declared.job.Job.{Job}
 use Rattle.mc_script.specs.declared.acts.Act.{Act}
 use Rattle.mc_script.specs.declared.acts.Act.TheVariants as acts
-use Rattle.mc_script.specs.Pairing.{IsPaired, may_act}
-use Rattle.mc_script.specs.Script.{out_after}
+use Rattle.mc_script.specs.Pairing.{IsPaired}
 use Rattle.mc_script.specs.Plays.{Begins, Leaves, May, Played, PlayedInPart, Readings, caller, gives_none, is_order, is_outcome, taken_after}
 use Rattle.mc_lines.specs.declared.halt.Halt.{Halt}
 use Rattle.mc_lines.specs.declared.halt.Halt.TheVariants as halts
-use Rattle.mc_lines.specs.Calls.{Ahead, Bears, Brings, Fails, Jobs, Outcome, at, number_of}
+use Rattle.mc_lines.specs.Calls.{Ahead, Bears, Brings, Jobs, Outcome, at, number_of}
 use Rattle.mc_lines.specs.Lines.{Grows, Line, Orders, Stands, settled}
 use Rattle.mc_lines.specs.Runs.{Goes, IsAged, IsAwaited, IsFree, IsOut, Keeps, Took}
 use Rattle.mc_lines.proofs.Counts.{count-one}
 use Rattle.mc_lines.proofs.Growing.{grows_none, grows_outcome}
-use Rattle.mc_lines.proofs.Parts.{begin, call_each, none}
+use Rattle.mc_lines.proofs.Parts.{call_each, none}
 
 -- ---- the job that is out
 

@@ -1,9 +1,8 @@
 -- What is seen at the heads of tracks, and what a drain does first.
-use Rattle.std.specs.Prelude.{◌≡◌, ℕ, ◌≤◌, nat_lt, Bool, true, false, if◌then◌else◌, Option, Some, None, IfSome}
+use Rattle.std.specs.Prelude.{◌≡◌, ℕ, ◌≤◌, nat_lt, true, false, if◌then◌else◌, Option, Some, None, IfSome}
 use Rattle.mc_packet.specs.declared.choice.Choice.{Choice}
 use Rattle.mc_packet.specs.declared.choice.Kind.{Kind}
 use Rattle.mc_packet.specs.declared.choice.Kind.TheVariants.{Video, Audio, Sub}
-use Rattle.mc_packet.specs.declared.packet.Pos.{Pos}
 use Rattle.mc_journal.specs.Films.{rank}
 use Rattle.mc_lines.specs.declared.next.Next.{Next}
 use Rattle.mc_lines.specs.declared.next.Next.TheVariants.{Give, Tell, Turn}

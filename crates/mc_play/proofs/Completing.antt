@@ -1,6 +1,6 @@
 -- Where nothing stands in the way of a run, all lines are played, and drains go to the ends: a failure is told only behind one.
-use Rattle.std.proofs.Common.{◌≡◌, ℕ, ◌<◌, ◌≤◌, ◌⊎◌, Bool, true, false, List, [], ◌∷◌, ◌++◌, length, Option, Some, None, Result, Ok, Err, refl, sym, ap, ◌∙◌, subst, inl, inr, arith}
-use Rattle.std.specs.Prelude.{◌||◌, ◌&&◌, ◌==◌, if◌then◌else◌, reverse}
+use Rattle.std.proofs.Common.{◌≡◌, ℕ, ◌<◌, ◌≤◌, Bool, true, false, List, [], ◌∷◌, ◌++◌, length, Option, Some, None, Ok, refl, sym, ap, ◌∙◌, subst, inl, inr, arith}
+use Rattle.std.specs.Prelude.{◌||◌, ◌&&◌, ◌==◌, reverse}
 use Rattle.std.specs.List.{list_any}
 use Rattle.std.proofs.lemmas.Bool.{cases_Bool}
 use Rattle.std.proofs.lemmas.List.{append-nil, append_assoc}
@@ -14,7 +14,6 @@ use Rattle.mc_outside.specs.Causes.{Rose}
 use Rattle.mc_outside.specs.Shelf.{Files}
 use Rattle.mc_journal.specs.declared.record.DemuxRecord.{DemuxRecord}
 use Rattle.mc_journal.specs.declared.record.DemuxRecord.TheVariants.{Opened, Sought, Switched, Found, Fed, Failed, Starved, Dropped, Joined, Gave, Ended, Overfull, Faulted, Wanting, Shown, Refused}
-use Rattle.mc_journal.specs.Choices.{nothing}
 use Rattle.mc_journal.specs.Films.{Film}
 use Rattle.mc_journal.specs.Readings.{last_fault}
 use Rattle.mc_journal.specs.Used.{IsFailure, IsUsed, IsWant, Tells}
@@ -28,8 +27,8 @@ use Rattle.mc_script.specs.declared.exit.ShelfCause.TheVariants as causes
 use Rattle.mc_script.specs.declared.options.RunLine.{RunLine}
 use Rattle.mc_world.specs.Filmed.{film_for}
 use Rattle.mc_script.specs.Plays.{Leaves, Played, Readings, reader, selection, still_left, taken_after, tells_reader}
-use Rattle.mc_play.specs.Asked.{CausedBy, FileIs, ScriptIs, ScriptIsRefused, name_at}
-use Rattle.mc_play.specs.Run.{Counts, Ends, EndsLine, Plays, Stepped, is_failed, is_starved}
+use Rattle.mc_play.specs.Asked.{CausedBy, ScriptIs, ScriptIsRefused, name_at}
+use Rattle.mc_play.specs.Run.{Counts, Ends, EndsLine, Stepped, is_failed, is_starved}
 use Rattle.mc_play.specs.Completing.{Completes, EndsAll, Fulfils, HasAll, IsEnded, IsQuiet, PlayedOut, ends_reader}
 
 or_false : (a b : Bool) → (a || b) ≡ false → (a ≡ false) × (b ≡ false)

@@ -1,6 +1,6 @@
 -- How a run ends, by what was played and written.
-use Rattle.std.proofs.Common.{◌≡◌, ℕ, ◌<◌, ◌≤◌, ◌⊎◌, ◌+◌, min, Bool, true, false, List, [], ◌∷◌, ◌++◌, length, take, Option, Some, None, Result, Ok, Err, refl, sym, ap, ◌∙◌, subst, inl, inr, arith}
-use Rattle.std.specs.Prelude.{◌||◌, ◌^◌, ◌-◌, if◌then◌else◌}
+use Rattle.std.proofs.Common.{◌≡◌, ℕ, ◌≤◌, ◌⊎◌, Bool, true, false, List, [], ◌∷◌, length, take, Option, Some, None, Result, Ok, Err, refl, sym, ap, subst, inl, inr, arith}
+use Rattle.std.specs.Prelude.{◌||◌}
 use Rattle.std.specs.List.{list_any, AllByRecursion}
 use Rattle.std.proofs.lemmas.Bool.{cases_Bool}
 use Rattle.std.proofs.lemmas.List.{append-nil, take_all}
@@ -14,7 +14,6 @@ use Rattle.mc_journal.specs.declared.record.DemuxRecord.TheVariants.{Opened, Fai
 use Rattle.mc_demux.specs.Outcomes.{HasRisen}
 use Rattle.mc_script.specs.declared.exit.Exit.{Exit}
 use Rattle.mc_script.specs.declared.exit.Exit.TheVariants as exits
-use Rattle.mc_script.specs.declared.exit.ShelfCause.TheVariants as causes
 use Rattle.mc_script.specs.declared.options.RunLine.{RunLine}
 use Rattle.mc_script.specs.Transcript.{transcript}
 use Rattle.mc_lines.specs.declared.halt.Halt.{Halt}

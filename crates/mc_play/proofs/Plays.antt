@@ -1,13 +1,12 @@
 -- A script that was played on a driver was played over the film for which it stands.
-use Rattle.std.proofs.Common.{◌≡◌, ℕ, ◌≤◌, Bool, true, false, List, [], ◌∷◌, Option, Some, None, Result, Ok, Err, refl, sym, ap, subst, ◌∙◌, arith}
-use Rattle.std.specs.Prelude.{IfOk, reverse, ◌^◌, ℤ, pos, ◌≤ℤ◌}
+use Rattle.std.proofs.Common.{◌≡◌, ℕ, ◌≤◌, List, [], ◌∷◌, Option, Some, None, Result, Ok, refl, ap, subst, ◌∙◌, arith}
+use Rattle.std.specs.Prelude.{reverse, ◌^◌, ℤ, pos, ◌≤ℤ◌}
 use Rattle.std.specs.Int.Signed.{<ℤ-≤ℤ_trans, clash_ℤ, le_z_yes}
 use Rattle.std.specs.List.{AllByRecursion}
 use Rattle.std.proofs.lemmas.Int.{by_lt_z}
 use Rattle.mc_outside.specs.Shelf.{Files, Opened as OpenedFiles, content}
 use Rattle.mc_tracks.specs.declared.refused.Refused.{Refused}
 use Rattle.mc_packet.specs.declared.cache.Limits.{Limits}
-use Rattle.mc_tracks.specs.declared.track.Track.{Track}
 use Rattle.mc_tracks.specs.TrackList.{default_choice_of}
 use Rattle.mc_walk.specs.declared.plan.Plan.{Plan}
 use Rattle.mc_walk.specs.Opening.{opened_film}

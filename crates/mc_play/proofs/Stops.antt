@@ -1,7 +1,6 @@
 -- Why nothing was done, by the file, the script or the film that was not opened.
-use Rattle.std.proofs.Common.{◌≡◌, ℕ, ◌≤◌, List, [], ◌∷◌, Option, Some, None, Result, Ok, Err, refl, sym, ap, ◌∙◌, subst, inl, inr, arith}
+use Rattle.std.proofs.Common.{◌≡◌, ℕ, List, Option, Some, None, Result, Ok, Err, sym, ap, subst, inl, inr}
 use Rattle.std.specs.Prelude.{IfErr, IfOk}
-use Rattle.mc_outside.specs.Causes.{Rose}
 use Rattle.mc_outside.specs.Shelf.{Files, Opened, Lacks, content}
 use Rattle.mc_script.specs.declared.acts.Act.{Act}
 use Rattle.mc_script.specs.declared.exit.Exit.{Exit}
@@ -12,7 +11,7 @@ use Rattle.mc_script.specs.Script.{script_of}
 use Rattle.mc_walk.specs.Opening.{opened_film}
 use Rattle.mc_cursor.specs.declared.cursor.Cursor.{Cursor}
 use Rattle.mc_cursor.specs.Reads.{Told}
-use Rattle.mc_play.specs.Asked.{FileIs, ScriptIs, ScriptIsRefused, Stopped, name_at}
+use Rattle.mc_play.specs.Asked.{FileIs, ScriptIs, Stopped, name_at}
 use Rattle.mc_play.specs.Opening.{BeginStops, FileStops, FilmStops, IsOpened, LinesStop, OpensFile, OpensFilm, ReadsScript, ScriptStops}
 
 -- ---- what is said of told octets is said of the file

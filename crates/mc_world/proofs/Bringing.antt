@@ -1,5 +1,5 @@
 -- A job that was done and brought, as a script's lines rest on it.
-use Rattle.std.proofs.Common.{◌≡◌, ℕ, ◌+◌, ◌<◌, ◌≤◌, true, List, [], ◌∷◌, ◌++◌, Option, Some, None, Result, Ok, Err, refl, sym, ap, subst, ◌∙◌, arith}
+use Rattle.std.proofs.Common.{◌≡◌, ℕ, ◌+◌, true, List, [], ◌∷◌, ◌++◌, Option, Some, None, Result, Ok, Err, refl, sym, ap, subst, ◌∙◌, arith}
 use Rattle.std.specs.Prelude.{IfSome, IsSomeAnd, is_some}
 use Rattle.mc_packet.specs.declared.walk.Chunk.{Chunk}
 use Rattle.mc_packet.specs.declared.choice.Choice.{Choice}
@@ -8,7 +8,7 @@ use Rattle.mc_packet.specs.declared.walk.Mark.{Mark}
 use Rattle.mc_range.specs.Range.{RangeState}
 use Rattle.mc_cache.specs.Cache.{mark_in}
 use Rattle.mc_journal.specs.declared.record.DemuxRecord.{DemuxRecord}
-use Rattle.mc_journal.specs.declared.record.DemuxRecord.TheVariants.{Found, Fed, Failed as FailedRecord, Starved as StarvedRecord}
+use Rattle.mc_journal.specs.declared.record.DemuxRecord.TheVariants.{Found, Failed as FailedRecord, Starved as StarvedRecord}
 use Rattle.mc_demux.specs.declared.answer.DemuxError.{DemuxError}
 use Rattle.mc_demux.specs.declared.answer.DemuxError.TheVariants as errors
 use Rattle.mc_demux.specs.declared.answer.Taken.{Taken}
@@ -20,9 +20,8 @@ use Rattle.mc_demux.specs.declared.waiting.Failure.TheVariants.{Failed, Starved}
 use Rattle.mc_demux.specs.Demuxers.{IsDemux, IsKept, KeepsJob}
 use Rattle.mc_demux.specs.Film.{failure_record}
 use Rattle.mc_demux.specs.Outcomes.{AreStartsFor, Fails, Feeds, Finds, IsStale, PartFits, StartsFit}
-use Rattle.mc_demux.specs.Records.{WroteAll}
 use Rattle.mc_demux.specs.State.{DemuxState}
-use Rattle.mc_lines.specs.Calls.{Brings, FailsIn, Outcome, number_of}
+use Rattle.mc_lines.specs.Calls.{Brings, Outcome, number_of}
 use Rattle.mc_world.specs.declared.brought.Brought.{Brought}
 use Rattle.mc_world.specs.declared.brought.Brought.TheVariants.{Part, Starts, Nothing}
 use Rattle.mc_world.specs.Machines.{Does, IsPartJob, jobs_of}

@@ -1,5 +1,5 @@
 -- A demuxer's calls, as a script's lines rest on them.
-use Rattle.std.proofs.Common.{◌≡◌, ℕ, ◌+◌, ◌<◌, ◌≤◌, Bool, true, false, not, List, [], ◌∷◌, ◌++◌, length, reverse, Option, Some, None, Result, Ok, Err, refl, sym, ap, subst, ◌∙◌, inl, inr, arith}
+use Rattle.std.proofs.Common.{◌≡◌, ℕ, ◌+◌, Bool, true, false, List, [], ◌∷◌, Option, Some, None, Result, Ok, Err, refl, sym, ap, subst, ◌∙◌, inl, inr, arith}
 use Rattle.std.proofs.lemmas.Bool.{cases_Bool}
 use Rattle.std.specs.Prelude.{IfSome, ◌&&◌, ◌||◌, if◌then◌else◌, nat_le, ℤ}
 use Rattle.std.specs.Option.{option_map}
@@ -14,11 +14,9 @@ use Rattle.mc_packet.specs.declared.walk.Ending.{Ending}
 use Rattle.mc_range.specs.Range.{RangeState, queue_of}
 use Rattle.mc_queue.specs.Queue.{QueueState}
 use Rattle.mc_journal.specs.Choices.{has, is_track}
-use Rattle.mc_journal.specs.Films.{rank}
 use Rattle.mc_journal.specs.declared.record.Sought.{Sought as How}
 use Rattle.mc_journal.specs.declared.record.DemuxRecord.{DemuxRecord}
-use Rattle.mc_journal.specs.declared.record.DemuxRecord.TheVariants.{Sought, Switched, Dropped, Joined, Refused as RefusedRecord}
-use Rattle.mc_journal.specs.declared.record.Cause.TheVariants.{Limit}
+use Rattle.mc_journal.specs.declared.record.DemuxRecord.TheVariants.{Sought, Switched, Dropped, Refused as RefusedRecord}
 use Rattle.mc_demux.specs.declared.answer.DemuxError.{DemuxError}
 use Rattle.mc_demux.specs.declared.answer.DemuxError.TheVariants as errors
 use Rattle.mc_demux.specs.declared.answer.Selected.{Selected}
@@ -35,15 +33,15 @@ use Rattle.mc_demux.specs.Asking.{Asks, IsAsked}
 use Rattle.mc_demux.specs.Demuxers.{IsDemux, IsKept, KeepsJob}
 use Rattle.mc_demux.specs.Jobs.{job_of, kept_job}
 use Rattle.mc_demux.specs.Keeping.{IsAsBefore}
-use Rattle.mc_demux.specs.Readings.{ReadOn, ReadsWith, Reads as DemuxReads, past_packets, peek_at, reading_by, reading_of, record_of, waiting_for}
+use Rattle.mc_demux.specs.Readings.{ReadOn, ReadsWith, Reads as DemuxReads, peek_at, reading_by, reading_of, record_of, waiting_for}
 use Rattle.mc_demux.specs.Records.{HasRoom, IsExtra, IsFull, IsLimitDrop, Wrote, WroteAll}
 use Rattle.mc_demux.specs.Seeking.{IsRefused, Seeks as DemuxSeeks}
-use Rattle.mc_demux.specs.Selecting.{Selects as DemuxSelects, added_to, choice_of, refusal_of, sought_again}
+use Rattle.mc_demux.specs.Selecting.{Selects as DemuxSelects, added_to, choice_of, sought_again}
 use Rattle.mc_demux.specs.Shows.{goal_of, is_finish, is_idle_job}
 use Rattle.mc_demux.specs.State.{DemuxState, end_in, first_at, forward_of, head_of, next_in}
 use Rattle.mc_demux.specs.Viewing.{Shows as DemuxShows}
-use Rattle.mc_lines.specs.Calls.{Fails, Jobs, Peeks, Reads, Seeks, Selects, Shows, Takes, number_of, switch_records}
-use Rattle.mc_world.specs.Machines.{ahead_of, choice_for, jobs_of, place_of, refused_or, would_tell}
+use Rattle.mc_lines.specs.Calls.{Fails, Peeks, Reads, Seeks, Selects, Shows, Takes, number_of, switch_records}
+use Rattle.mc_world.specs.Machines.{ahead_of, jobs_of, place_of, refused_or, would_tell}
 
 -- ---- records
 

@@ -1,25 +1,21 @@
 -- Where the packets of a walk and of a part lie, and how a film falls into what stands before a mark and behind it.
-use Rattle.std.proofs.Common.{◌≡◌, ℕ, zero, suc, ◌+◌, ◌-◌, ◌<◌, ◌≤◌, List, [], ◌∷◌, ◌++◌, length, Option, Some, None, refl, sym, ap, ◌∙◌, append_assoc, arith}
+use Rattle.std.proofs.Common.{◌≡◌, ℕ, zero, suc, ◌-◌, ◌<◌, ◌≤◌, List, [], ◌∷◌, ◌++◌, length, Option, Some, None, refl, sym, ap, ◌∙◌, append_assoc, arith}
 use Rattle.std.specs.List.{AllByRecursion}
 use Rattle.mc_packet.specs.declared.packet.Packet.{Packet}
 use Rattle.mc_packet.specs.declared.walk.Ending.{Ending}
 use Rattle.mc_packet.specs.declared.walk.Level.{Level}
-use Rattle.mc_packet.specs.declared.walk.Level.TheVariants as levels
-use Rattle.mc_packet.specs.declared.walk.Mark.{Mark}
 use Rattle.mc_walk.specs.declared.plan.Plan.{Plan}
 use Rattle.mc_walk.specs.declared.plan.Step.{Step}
 use Rattle.mc_walk.specs.declared.plan.Step.TheVariants.{End, On}
-use Rattle.mc_walk.specs.Walk.{step_at, steps, walk, after, Rises, Rest, in_front, packets_in, film_walk}
+use Rattle.mc_walk.specs.Walk.{step_at, steps, walk, after, Rises, Rest, in_front, packets_in}
 use Rattle.mc_walk.specs.Frames.{Comes}
 use Rattle.mc_walk.specs.Frames.Comes.{here, onward}
-use Rattle.mc_walk.specs.Parts.{mark, opening_mark, Part, part, part_after, part_at, place_of, level_of, IsMark}
-use Rattle.mc_walk.specs.Parts.IsMark.{at_end, at_opening, at_block}
+use Rattle.mc_walk.specs.Parts.{Part, part, part_after}
 use Rattle.mc_walk.proofs.Rising.{step-rises}
-use Rattle.mc_walk.proofs.Enough.{walk-enough, part-to}
+use Rattle.mc_walk.proofs.Enough.{walk-enough}
 use Rattle.mc_walk.proofs.Framing.{Framed, step-framed}
 use Rattle.mc_walk.proofs.Lanes.{all-weaker, IsFrom}
-use Rattle.mc_walk.proofs.Joining.{place-of, level-of, mark-lies, comes-within}
-use Rattle.mc_index.specs.Scans.{IsPlan}
+use Rattle.mc_walk.proofs.Joining.{comes-within}
 
 -- ---- packets by their blocks
 

@@ -1,6 +1,6 @@
 -- The mark at a start is one from which a film can be read on.
-use Rattle.std.proofs.Common.{◌≡◌, ℕ, zero, suc, ◌+◌, ◌-◌, ◌<◌, ◌≤◌, ◌⊎◌, inl, inr, List, [], ◌∷◌, ◌++◌, length, Option, Some, None, min, refl, sym, ap, subst, ◌∙◌, arith}
-use Rattle.std.proofs.lemmas.Bool.{cond_both, cases_Bool}
+use Rattle.std.proofs.Common.{◌≡◌, ℕ, zero, suc, ◌+◌, inl, inr, List, [], ◌∷◌, ◌++◌, Option, Some, None, min, refl, sym, subst, ◌∙◌, arith}
+use Rattle.std.proofs.lemmas.Bool.{cases_Bool}
 use Rattle.std.proofs.lemmas.List.Elements.{All-contains, All-from_recursion, Contains-append_cases}
 use Rattle.std.specs.Prelude.{Contains, IfSome, nat_le}
 use Rattle.std.specs.List.{AllByRecursion}
@@ -13,7 +13,7 @@ use Rattle.mc_packet.specs.declared.walk.Mark.{Mark}
 use Rattle.mc_walk.specs.declared.plan.Plan.{Plan}
 use Rattle.mc_walk.specs.declared.plan.Step.{Step}
 use Rattle.mc_walk.specs.declared.plan.Step.TheVariants.{End, On}
-use Rattle.mc_walk.specs.Walk.{step_at, steps, Rest, in_front, film_walk}
+use Rattle.mc_walk.specs.Walk.{step_at, steps, Rest, film_walk}
 use Rattle.mc_walk.specs.Parts.{opening_mark, Part, part, part_after, part_at, place_of, level_of, joined, joined_after, IsMark}
 use Rattle.mc_walk.specs.Parts.IsMark.{at_opening}
 use Rattle.mc_walk.proofs.Framing.{Framed, step-framed}

@@ -1,5 +1,5 @@
 -- A chunk of a film is a part of it: all its packets from one mark to the next.
-use Rattle.std.proofs.Common.{◌≡◌, ℕ, ◌+◌, ◌*◌, ◌-◌, ◌<◌, ◌≤◌, List, [], ◌∷◌, ◌++◌, map, length, Option, Some, None, refl, sym, ap, subst, ◌∙◌, append_assoc, arith}
+use Rattle.std.proofs.Common.{◌≡◌, ℕ, ◌<◌, ◌≤◌, List, [], ◌∷◌, ◌++◌, length, Option, Some, None, refl, sym, ap, subst, ◌∙◌, arith}
 use Rattle.std.proofs.lemmas.List.{append-nil, map-append}
 use Rattle.std.proofs.lemmas.List.Elements.{filter-append}
 use Rattle.std.proofs.lemmas.Bool.{cond_both}
@@ -8,12 +8,11 @@ use Rattle.std.specs.Prelude.{false, ◌==◌, ◌&&◌, nat_le, nat_lt, IfSome}
 use Rattle.std.specs.List.{AllByRecursion}
 use Rattle.mc_packet.specs.declared.packet.Packet.{Packet}
 use Rattle.mc_packet.specs.declared.walk.Ending.{Ending}
-use Rattle.mc_packet.specs.declared.walk.Level.{Level}
 use Rattle.mc_packet.specs.declared.walk.Level.TheVariants as levels
 use Rattle.mc_packet.specs.declared.walk.Mark.{Mark}
 use Rattle.mc_walk.specs.declared.plan.Plan.{Plan}
-use Rattle.mc_walk.specs.Walk.{steps, walk, Rest, in_front, film_walk}
-use Rattle.mc_walk.specs.Parts.{mark, opening_mark, Part, part_at, place_of, level_of, joined_after, chunk_at, IsMark}
+use Rattle.mc_walk.specs.Walk.{steps, Rest, in_front, film_walk}
+use Rattle.mc_walk.specs.Parts.{mark, Part, part_at, place_of, level_of, joined_after, chunk_at, IsMark}
 use Rattle.mc_walk.specs.Parts.IsMark.{at_end, at_opening, at_block}
 use Rattle.mc_walk.proofs.Enough.{part-to, EndsOnward}
 use Rattle.mc_walk.proofs.Joining.{place-of, level-of, mark-lies, comes-within, walk-by_part, from_mark}
@@ -26,7 +25,7 @@ use Rattle.mc_index.specs.Scans.{IsPlan}
 use Rattle.mc_index.proofs.Fronts.{mark-under}
 use Rattle.mc_demux.specs.Film.{IsPartOf}
 use Rattle.mc_world.specs.Filmed.{film_for}
-use Rattle.mc_world.proofs.Lying.{IsBehind, IsBefore, all-append, behind-earlier, before-later, walk-behind, LiesIn, part-lies, from_end, walk-parts, in_front-append, Falls, comes-falls}
+use Rattle.mc_world.proofs.Lying.{IsBehind, IsBefore, all-append, behind-earlier, before-later, walk-behind, part-lies, from_end, walk-parts, in_front-append, Falls, comes-falls}
 
 -- ---- what stands before a mark
 

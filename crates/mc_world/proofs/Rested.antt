@@ -14,23 +14,21 @@ use Rattle.mc_packet.specs.declared.packet.Packet.{Packet}
 use Rattle.mc_packet.specs.declared.cache.Limits.{Limits}
 use Rattle.mc_journal.specs.declared.record.DemuxRecord.{DemuxRecord}
 use Rattle.mc_journal.specs.declared.record.DemuxRecord.TheVariants.{Opened, Sought, Switched, Failed, Starved, Ended, Faulted, Wanting}
-use Rattle.mc_journal.specs.Choices.{has, is_track, kept_of, kept_track, nothing}
+use Rattle.mc_journal.specs.Choices.{has, is_track, kept_of, kept_track}
 use Rattle.mc_journal.specs.Films.{Film, at as place}
 use Rattle.mc_journal.specs.Readings.{failed, last_fault, selected}
 use Rattle.mc_journal.specs.Used.{IsFailure, IsUsed, IsWant, can_end}
 use Rattle.mc_journal.specs.Views.{next, was_ended}
 use Rattle.mc_demux.specs.declared.job.Job.{Job}
 use Rattle.mc_demux.specs.declared.job.Job.TheVariants.{Idle}
-use Rattle.mc_demux.specs.Demuxers.{IsDemux}
 use Rattle.mc_demux.specs.Film.{StandsFor}
-use Rattle.mc_demux.specs.Jobs.{job_of}
 use Rattle.mc_demux.specs.Readings.{peek_at, reading_of}
 use Rattle.mc_demux.specs.Shows.{is_finish, is_idle_job}
 use Rattle.mc_demux.specs.State.{DemuxState, next_in}
 use Rattle.mc_demux.specs.declared.answer.Peek.{Peek}
 use Rattle.mc_demux.specs.declared.answer.Peek.TheVariants.{Finish}
 use Rattle.mc_demux.proofs.Showing.{front_is, tells_is}
-use Rattle.mc_script.specs.Plays.{OfEach, Readings, is_order, reader, readings, selection, still_left, tells_reader, untold}
+use Rattle.mc_script.specs.Plays.{OfEach, is_order, reader, readings, selection, still_left, tells_reader, untold}
 use Rattle.mc_lines.specs.Calls.{AtRest}
 use Rattle.mc_world.specs.Machines.{choice_for}
 

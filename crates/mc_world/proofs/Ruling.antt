@@ -1,15 +1,13 @@
 -- The laws of a driver as a machine.
-use Rattle.std.proofs.Common.{◌≡◌, ℕ, Bool, true, List, refl, sym, ap, subst, ◌∙◌}
-use Rattle.mc_cursor.specs.declared.cursor.Cursor.{Cursor}
+use Rattle.std.proofs.Common.{◌≡◌, ℕ, List, refl, sym, subst}
 use Rattle.mc_cursor.specs.Standing.{plan_for}
 use Rattle.mc_demux.proofs.Idling.{idle_is}
 use Rattle.mc_demux.proofs.Laws.{stands_ended}
 use Rattle.mc_demux.proofs.Resting.{rests as demux_rests}
 use Rattle.mc_demux.specs.Demuxers.{IsDemux}
 use Rattle.mc_demux.specs.Jobs.{job_of}
-use Rattle.mc_demux.specs.State.{DemuxState}
 use Rattle.mc_script.specs.Plays.{Readings, readings}
-use Rattle.mc_lines.specs.Calls.{AtRest, Fixed, at}
+use Rattle.mc_lines.specs.Calls.{AtRest, at}
 use Rattle.mc_world.specs.declared.driver.Driver.{Driver}
 use Rattle.mc_world.specs.Filmed.{film_for}
 use Rattle.mc_world.specs.Driving.{Drives}

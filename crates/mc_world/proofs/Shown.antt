@@ -1,5 +1,5 @@
 -- On its film a driver would answer what the journal says.
-use Rattle.std.proofs.Common.{◌≡◌, ℕ, Bool, true, false, List, reverse, Option, Some, None, Result, Ok, Err, refl, sym, ap, subst, ◌∙◌}
+use Rattle.std.proofs.Common.{◌≡◌, ℕ, Bool, List, reverse, Option, Some, None, Result, Ok, Err, refl, sym, ap, subst, ◌∙◌}
 use mathlib.Core.Path.{fun_ext}
 use Rattle.std.specs.Prelude.{ℤ, IfSome, pos, unwrap_or}
 use Rattle.std.specs.Option.{option_map}
@@ -18,13 +18,13 @@ use Rattle.mc_demux.specs.declared.answer.Reading.{Reading}
 use Rattle.mc_demux.specs.declared.answer.Reading.TheVariants as reads
 use Rattle.mc_demux.specs.Demuxers.{IsDemux}
 use Rattle.mc_demux.specs.Film.{StandsFor}
-use Rattle.mc_demux.specs.Readings.{Reads as DemuxReads, ReadOn, reading_of}
+use Rattle.mc_demux.specs.Readings.{Reads as DemuxReads, ReadOn}
 use Rattle.mc_demux.specs.Shows.{GivesNone, is_idle_job}
 use Rattle.mc_demux.specs.State.{DemuxState, next_in}
 use Rattle.mc_demux.proofs.Showing.{front_is, own_is, pending_is, set_is, tells_is}
 use Rattle.mc_demux.proofs.Idling.{idle_is}
 use Rattle.mc_demux.proofs.Emptied.{quiet_is}
-use Rattle.mc_script.specs.Plays.{Readings, readings}
+use Rattle.mc_script.specs.Plays.{readings}
 use Rattle.mc_lines.specs.Calls.{Ahead, AnswersOn, at}
 use Rattle.mc_world.specs.Machines.{ahead_of, choice_for, place_of, would_tell}
 use Rattle.mc_world.proofs.Called.{next_gave, next_none}

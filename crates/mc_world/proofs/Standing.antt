@@ -1,7 +1,7 @@
 -- What a job came to, brought to the demuxer, keeps the film for which a driver stands.
-use Rattle.std.proofs.Common.{◌≡◌, ℕ, ◌<◌, ◌≤◌, true, List, [], ◌∷◌, ◌++◌, map, length, Option, Some, None, Result, Ok, Err, ℤ, refl, sym, ap, subst, ◌∙◌}
+use Rattle.std.proofs.Common.{◌≡◌, ℕ, true, List, [], ◌∷◌, map, Option, Some, None, Result, Ok, Err, ℤ, sym, ap, subst}
 use Rattle.std.proofs.lemmas.List.Elements.{All-contains, All-from_recursion, Contains-append_left, Contains-append_right, Contains-push}
-use Rattle.std.specs.Prelude.{Contains, IfSome, IsSomeAnd, reverse}
+use Rattle.std.specs.Prelude.{Contains, IfSome, reverse}
 use Rattle.std.specs.List.{AllByRecursion}
 use Rattle.mc_packet.specs.declared.choice.Choice.{Choice}
 use Rattle.mc_packet.specs.declared.choice.Dir.{Dir}
@@ -9,12 +9,12 @@ use Rattle.mc_packet.specs.declared.choice.Starts.{Starts as FoundStarts}
 use Rattle.mc_packet.specs.declared.walk.Chunk.{Chunk}
 use Rattle.mc_packet.specs.declared.walk.Mark.{Mark}
 use Rattle.mc_walk.specs.declared.plan.Plan.{Plan}
-use Rattle.mc_walk.specs.Parts.{part_at, chunk_at, IsMark}
+use Rattle.mc_walk.specs.Parts.{IsMark}
 use Rattle.mc_walk.specs.Parts.IsMark.{at_end}
 use Rattle.mc_journal.specs.declared.record.DemuxRecord.{DemuxRecord}
-use Rattle.mc_journal.specs.Choices.{passes, is_known, kept_of}
-use Rattle.mc_journal.specs.Films.{Film, is_listed}
-use Rattle.mc_journal.specs.Readings.{selected, waits}
+use Rattle.mc_journal.specs.Choices.{passes, is_known}
+use Rattle.mc_journal.specs.Films.{is_listed}
+use Rattle.mc_journal.specs.Readings.{waits}
 use Rattle.mc_cursor.specs.declared.cursor.Cursor.{Cursor}
 use Rattle.mc_cursor.specs.Standing.{StandsFor as CursorStandsFor, plan_for, at_mark}
 use Rattle.mc_cursor.proofs.Standing.{opening_lies}
@@ -28,11 +28,11 @@ use Rattle.mc_demux.specs.declared.answer.DemuxError.TheVariants.{Refused, Journ
 use Rattle.mc_demux.specs.declared.answer.Taken.{Taken}
 use Rattle.mc_demux.specs.declared.answer.Taken.TheVariants.{Taken as WasTaken, Stale}
 use Rattle.mc_demux.specs.declared.job.Job.{Job}
-use Rattle.mc_demux.specs.declared.job.Job.TheVariants.{SeekTo, Refresh, Resume, Read, Idle}
+use Rattle.mc_demux.specs.declared.job.Job.TheVariants.{SeekTo, Refresh}
 use Rattle.mc_demux.specs.declared.waiting.Failure.{Failure}
 use Rattle.mc_demux.specs.declared.waiting.Switch.{Switch}
 use Rattle.mc_demux.specs.State.{DemuxState}
-use Rattle.mc_demux.specs.Demuxers.{IsDemux, IsKept, KeepsJob}
+use Rattle.mc_demux.specs.Demuxers.{IsDemux, KeepsJob}
 use Rattle.mc_demux.specs.Film.{StandsFor, AreStartsOf, IsPartOf, failure_record}
 use Rattle.mc_demux.specs.Marks.{AreAmong, marks_of}
 use Rattle.mc_demux.specs.Outcomes.{Finds, Feeds, Fails}

@@ -1,16 +1,12 @@
 -- A demuxer keeps its limits and its tracks, and so the readings of its film.
-use Rattle.std.proofs.Common.{◌≡◌, ℕ, List, Option, Some, None, Result, Ok, Err, refl, sym, ap, subst, ◌∙◌}
+use Rattle.std.proofs.Common.{◌≡◌, ℕ, List, Option, Some, None, Result, Ok, Err, ap}
 use Rattle.std.specs.Prelude.{ℤ}
 use Rattle.mc_packet.specs.declared.cache.CacheView.{CacheView}
-use Rattle.mc_packet.specs.declared.cache.Limits.{Limits}
 use Rattle.mc_packet.specs.declared.choice.Dir.{Dir}
 use Rattle.mc_packet.specs.declared.choice.Starts.{Starts as FoundStarts}
 use Rattle.mc_packet.specs.declared.walk.Chunk.{Chunk}
-use Rattle.mc_tracks.specs.declared.track.Track.{Track}
 use Rattle.mc_journal.specs.declared.record.Sought.{Sought as How}
 use Rattle.mc_journal.specs.declared.record.DemuxRecord.{DemuxRecord}
-use Rattle.mc_cursor.specs.declared.cursor.Cursor.{Cursor}
-use Rattle.mc_cursor.specs.Standing.{plan_for}
 use Rattle.mc_walk.specs.declared.plan.Plan.{Plan}
 use Rattle.mc_demux.specs.declared.answer.DemuxError.{DemuxError}
 use Rattle.mc_demux.specs.declared.answer.DemuxError.TheVariants.{Refused, JournalFull, NoMemory}

@@ -1,5 +1,5 @@
 -- What a driver would answer next, by its demuxer.
-use Rattle.std.specs.Prelude.{◌≡◌, ℕ, ◌<◌, ◌≤◌, Bool, true, false, ◌&&◌, List, reverse, Option, Some, None, Result, Ok, Err, ℤ, pos, unwrap_or, ⊤}
+use Rattle.std.specs.Prelude.{◌≡◌, ℕ, Bool, true, ◌&&◌, List, reverse, Option, Some, None, Result, Ok, Err, pos, unwrap_or, ⊤}
 use Rattle.std.specs.Option.{option_map}
 use Rattle.mc_packet.specs.declared.choice.Choice.{Choice}
 use Rattle.mc_packet.specs.declared.choice.Why.{Why}

@@ -1,5 +1,5 @@
 -- What the job of a demuxer came to.
-use Rattle.std.specs.Prelude.{◌≡◌, ℕ, ◌≤◌, List, [], ◌∷◌, Option, Result, Ok, Err, IfSome, ℤ, ⊤}
+use Rattle.std.specs.Prelude.{◌≡◌, ℕ, ◌≤◌, List, ◌∷◌, Option, Result, Ok, Err, IfSome, ℤ, ⊤}
 use Rattle.mc_packet.specs.Shape.{HasShape}
 use Rattle.mc_packet.specs.declared.choice.Choice.{Choice}
 use Rattle.mc_packet.specs.declared.choice.Dir.{Dir}

@@ -1,5 +1,5 @@
-use Rattle.std.proofs.Common.{refl, ◌≡◌, ◌∙◌, arith, sym}
-use Rattle.std.specs.Prelude.{Ok, Some, true, false}
+use Rattle.std.proofs.Common.{refl, ◌∙◌, arith}
+use Rattle.std.specs.Prelude.{Ok, true}
 use Rattle.mc_script.specs.Plays.{reader}
 use Rattle.mc_lines.specs.declared.next.Next.TheVariants as nexts
 use Rattle.mc_lines.proofs.Drained.{gave, one_grows, start_on, told, turned}

@@ -1,8 +1,7 @@
-use Rattle.std.proofs.Common.{ap, sym, refl, ◌≡◌, ◌∙◌, ◌∷◌, ◌+◌, drop, arith}
-use Rattle.std.specs.Prelude.{false}
+use Rattle.std.proofs.Common.{ap, sym, ◌≡◌, ◌∙◌, ◌∷◌, ◌+◌, drop}
 use Rattle.std.proofs.lemmas.List.{drop_more}
-use Rattle.mc_lines.proofs.Growing.{grows_none, grows_on}
-use Rattle.mc_lines.proofs.Playing.{is_free, onward, paired_on, start}
+use Rattle.mc_lines.proofs.Growing.{grows_on}
+use Rattle.mc_lines.proofs.Playing.{onward, paired_on}
 use Rattle.mc_lines.proofs.Turning.{told_still}
 use Rattle.mc_lines.proofs.play.run_script.Goals as goal
 

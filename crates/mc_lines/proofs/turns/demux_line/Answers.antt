@@ -1,6 +1,5 @@
-use Rattle.std.proofs.Common.{refl, ap, ◌≡◌, ◌∙◌, arith, subst, sym}
-use Rattle.std.specs.Prelude.{Ok, Err, Some, true, false}
-use Rattle.mc_outside.specs.Shelf.{content}
+use Rattle.std.proofs.Common.{refl, ◌∙◌, arith}
+use Rattle.std.specs.Prelude.{Ok, true}
 use Rattle.mc_lines.specs.Calls.{at}
 use Rattle.mc_lines.proofs.Growing.{grows_none, grows_on}
 use Rattle.mc_lines.proofs.Turning.{next, start, told_still, turn_grows}

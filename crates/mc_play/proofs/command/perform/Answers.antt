@@ -1,4 +1,4 @@
-use Rattle.std.proofs.Common.{◌∙◌, sym, arith}
+use Rattle.std.proofs.Common.{◌∙◌, arith}
 use Rattle.mc_tracks.specs.TrackList.{default_choice_of}
 use Rattle.mc_play.proofs.Plays.{film_played, grows_earlier}
 use Rattle.mc_play.proofs.command.perform.Goals as goal

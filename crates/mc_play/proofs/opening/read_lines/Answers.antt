@@ -1,4 +1,4 @@
-use Rattle.std.proofs.Common.{subst, ◌≡◌, ◌∙◌}
+use Rattle.std.proofs.Common.{subst, ◌∙◌}
 use Rattle.std.specs.Prelude.{Ok, Err}
 use Rattle.mc_script.specs.declared.acts.ScriptError.{ScriptError}
 use Rattle.mc_script.specs.declared.acts.ScriptError.TheVariants.{Refused}

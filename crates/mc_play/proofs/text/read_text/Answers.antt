@@ -1,4 +1,4 @@
-use Rattle.std.proofs.Common.{refl, sym, subst, ap, ◌≡◌, ◌∙◌, arith}
+use Rattle.std.proofs.Common.{sym, arith}
 use Rattle.mc_play.proofs.Texts.{whole_front}
 use Rattle.mc_play.proofs.text.read_text.Goals as goal
 

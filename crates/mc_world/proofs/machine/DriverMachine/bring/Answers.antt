@@ -1,4 +1,4 @@
-use Rattle.std.proofs.Common.{◌≡◌, ap, refl, sym}
+use Rattle.std.proofs.Common.{ap, refl}
 use Rattle.mc_cursor.specs.declared.cursor.Cursor.{Cursor}
 use Rattle.mc_cursor.specs.Standing.{plan_for}
 use Rattle.mc_journal.specs.declared.record.DemuxRecord.TheVariants.{Starved as StarvedRecord}

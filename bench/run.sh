@@ -1,6 +1,6 @@
 #!/usr/bin/env bash
-# Times `mcplay run FILM` beside other readers of the same films, which take turns, each as a ratio
-# to `cat`, and their peak memory; and counts mcplay's system calls, where strace is at hand. Usage:
+# Times `./mcplay run FILM` beside other readers of the same films, which take turns, each as a ratio
+# to `cat`, and their peak memory; and counts its system calls, where strace is at hand. Usage:
 # bench/run.sh [FILM...]; without a film it makes two with ffmpeg in bench/films: one of about
 # 200 MB with large packets, and one of about 1.5 GB with 517,500 small ones. Tools that are missing
 # are skipped.
@@ -34,7 +34,7 @@ fi
 for film in "${films[@]}"; do
     echo "$film: $(stat -c %s "$film") octets, $(nproc) cores, least and median of $runs rounds"
     at=$(printf %q "$film")
-    commands=(cat "cat $at" "mcplay run" "$program run $at")
+    commands=(cat "cat $at" "./mcplay run" "./mcplay run $at" "its program without large pages" "$program run $at")
     command -v ffmpeg >/dev/null && commands+=("ffmpeg -map 0 -c copy -f framecrc" "ffmpeg -v error -i $at -map 0 -c copy -f framecrc -")
     command -v ffprobe >/dev/null && commands+=("ffprobe -show_packets, checksums" "ffprobe -v error -show_packets -show_data_hash CRC32 -of csv $at")
     if command -v mkvextract >/dev/null; then

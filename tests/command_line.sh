@@ -76,6 +76,14 @@ expect 6 "" "mcplay: script line 2: Word" run "$film" "$scripts/word"
 expect 6 "" "mcplay: script line 2: Number" run --back=0 "$film" "$scripts/number"
 expect 6 "" "mcplay: script line 0: Utf8" run "$film" "$film"
 expect 6 "" "mcplay: script line 2: Word" run README.md "$scripts/word"
+# The launcher hands its words on, wherever it is called from.
+top=$PWD
+if [ "$(cd / && "$top/mcplay" run "$top/$film" 2>&1)" = "$("$program" run "$film")" ]; then
+    passed=$((passed + 1))
+else
+    echo "command line: the launcher does not print what the program prints"
+    failed=$((failed + 1))
+fi
 if [ -w /dev/full ]; then
     if "$program" run "$film" 2>/dev/null >/dev/full; [ $? = 4 ]; then
         passed=$((passed + 1))

@@ -10,8 +10,6 @@ use Rattle.mc_journal.specs.Films.{Film}
 use Rattle.mc_index.specs.Answers.{AreOfBlocks, SeekStarts, SwitchStarts}
 use Rattle.mc_demux.specs.declared.answer.DemuxError.{DemuxError}
 use Rattle.mc_demux.specs.declared.answer.Taken.{Taken}
-use Rattle.mc_demux.specs.declared.job.Job.{Job}
-use Rattle.mc_demux.specs.declared.job.Job.TheVariants.{Resume, Read}
 use Rattle.mc_demux.specs.declared.waiting.Failure.{Failure}
 use Rattle.mc_demux.specs.declared.waiting.Failure.TheVariants.{Failed, Starved}
 use Rattle.mc_demux.specs.Film.{AreStartsOf, IsPartOf, failure_record}
@@ -71,12 +69,6 @@ abbrev pub Brings : ℕ → Brought → DemuxState → Type 0
 Brings n (Part c) d = BringsPart n c d
 Brings n (Starts s) d = BringsStarts n s d
 Brings n (Nothing failure) d = BringsFailure n d × HasRisenIn failure
-
--- the job that a demuxer keeps bears this number, and is to read a part of the film
-abbrev pub IsToRead : ℕ → Job → Type 0
-IsToRead n (Resume k mark) = k ≡ n
-IsToRead n (Read k) = k ≡ n
-IsToRead n _ = ⊥
 
 -- it is of the film
 abbrev pub IsOfFilm : Film → ℕ → Brought → DemuxState → Type 0

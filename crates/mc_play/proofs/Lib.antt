@@ -4,3 +4,4 @@ pub mod Stops
 pub mod Endings
 pub mod Completing
 pub mod Plays
+pub mod Writing

@@ -11,8 +11,12 @@ use crate::playing::{Played, play};
 use mc_journal::{DemuxJournal, DemuxRecord};
 use mc_lines::Halt;
 use mc_outside::{Shelf, Sink, SinkError, write_full};
-use mc_script::{Exit, RunLine, RunReport, ShelfCause, demux_text, parse_run_line};
+use mc_packet::Choice;
+use mc_script::{Exit, RunLine, RunReport, ShelfCause, parse_run_line, records_text};
 use std::alloc::Global;
+
+/// How many records' lines are written at a time.
+const PIECE: usize = 8_192;
 
 /// Plays the script over the film that the words name, or says why nothing was done.
 fn perform<D: Shelf>(
@@ -61,15 +65,28 @@ fn any_starved(hd: &[DemuxRecord]) -> bool
     hd.iter().any(is_starved)
 }
 
-/// Writes the transcript of a journal.
+/// Writes the transcript of a journal, the lines of some records at a time, so that its text is not
+/// held whole.
 fn write_out<K: Sink>(alloc: Global, hd: &DemuxJournal, out: &mut K) -> Result<(), SinkError>
     ensures written { WroteWell (K.text out.old) (K.text out.new) hd.now result }
     ensures cause { WriteFits (K.faults out.old) (K.faults out.new) result }
 {
-    let Ok(text) = demux_text(alloc, hd) else {
-        return Err(SinkError::NoMemory);
+    let mut selected = Choice {
+        video: None,
+        audio: None,
+        sub: None,
     };
-    write_full(out, text.as_str().as_bytes())
+    let mut rest = hd.as_slice();
+    while !rest.is_empty() {
+        let (part, more) = rest.split_at(rest.len().min(PIECE));
+        let Ok((text, behind)) = records_text(alloc, selected, part) else {
+            return Err(SinkError::NoMemory);
+        };
+        write_full(out, text.as_str().as_bytes())?;
+        selected = behind;
+        rest = more;
+    }
+    Ok(())
 }
 
 fn shelf_exit(failed: bool, before: u64, after: u64) -> Exit

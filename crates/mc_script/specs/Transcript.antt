@@ -87,5 +87,10 @@ abbrev pub lines_from : Choice → List DemuxRecord → List ℕ
 lines_from set [] = []
 lines_from set (r ∷ rs) = line set r ++ lines_from (set_after set r) rs
 
+-- the selected tracks behind some records, of those before them
+abbrev pub set_behind : Choice → List DemuxRecord → Choice
+set_behind set [] = set
+set_behind set (r ∷ rs) = set_behind (set_after set r) rs
+
 abbrev pub transcript : List DemuxRecord → List ℕ
 transcript h = lines_from nothing h

@@ -25,4 +25,4 @@ pub use exit::{Exit, RunReport, ShelfCause};
 pub use options::{RunLine, parse_run_line};
 pub use plays::{worked_scripts, wrong_plays};
 pub use script::parse_script;
-pub use transcript::demux_text;
+pub use transcript::{demux_text, records_text};

@@ -1,6 +1,6 @@
 ghost use Rattle.std.specs.Prelude.{◌≡◌, string_bytes, IfOk, OnOk, [], ◌∷◌, ◌++◌, codes, decimal};
 ghost use Rattle.mc_script.specs.Text.{joined};
-ghost use Rattle.mc_script.specs.Transcript.{set_after, place_text, payload_text, fault_text, ending_text, track_end_text, failed_text, fault_line, wanting_text, line, mark_text, transcript};
+ghost use Rattle.mc_script.specs.Transcript.{set_after, place_text, payload_text, fault_text, ending_text, track_end_text, failed_text, fault_line, wanting_text, line, lines_from, mark_text, set_behind, transcript};
 
 use crate::cache_text::{
     push_drop, push_overfull, push_refused, push_seek, push_switch, push_view,
@@ -179,20 +179,35 @@ fn push_line(text: &mut String, set: Choice, entry: &DemuxRecord) -> Result<(), 
     }
 }
 
+/// The text of some records of a demuxer's journal, before which these tracks are selected, and which
+/// are selected behind them: so the text of a long journal can be made piece by piece.
+pub fn records_text(
+    alloc: Global,
+    set: Choice,
+    records: &[DemuxRecord],
+) -> Result<(Text, Choice), NoMemory>
+    ensures text { IfOk result (λ r. r.0 ≡ lines_from set records.now) }
+    ensures set { IfOk result (λ r. r.1 ≡ set_behind set records.now) }
+{
+    let mut text = String::new(alloc);
+    let mut selected = set;
+    for entry in records {
+        push_line(&mut text, selected, entry)?;
+        selected = select(selected, entry);
+    }
+    Ok((Text::from_string(text), selected))
+}
+
 /// The text of a demuxer's journal: for each record its lines, each ended by LF, or nothing. A
 /// look at the cache is told with the tracks that are selected there.
 pub fn demux_text(alloc: Global, h: &DemuxJournal) -> Result<Text, NoMemory>
     ensures { IfOk result (λ s. s ≡ transcript h.now) }
 {
-    let mut text = String::new(alloc);
-    let mut set = Choice {
+    let set = Choice {
         video: None,
         audio: None,
         sub: None,
     };
-    for entry in h.as_slice() {
-        push_line(&mut text, set, entry)?;
-        set = select(set, entry);
-    }
-    Ok(Text::from_string(text))
+    let (text, _) = records_text(alloc, set, h.as_slice())?;
+    Ok(text)
 }

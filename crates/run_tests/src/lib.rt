@@ -14,6 +14,8 @@ mod films;
 #[cfg(test)]
 mod limits;
 #[cfg(test)]
+mod pieces;
+#[cfg(test)]
 mod rows;
 #[cfg(test)]
 mod runs;

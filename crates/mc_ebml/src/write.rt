@@ -111,7 +111,8 @@ fn push_size(out: &mut Vec<u8>, size: Size) -> Result<(), NoMemory>
 }
 
 /// Appends a number coded like a size, in the fewest octets whose value bits hold it, as a block's
-/// track number is (RFC 8794, section 4). All its value bits may be ones. `read_coded` gives it back.
+/// track number is (RFC 8794, section 4). All its value bits may be ones. `read_coded` gives it
+/// back.
 ///
 /// `NoMemory` comes only where the room for it was not there, and leaves the content as it was.
 #[tactic(auto, unfolding(crate::specs::Written::coded_octets))]
@@ -188,8 +189,8 @@ pub fn write_element(out: &mut Vec<u8>, id: u32, body: &[u8]) -> Result<(), NoMe
         (vec_capacity out.old < vec_len out.old + length (element_octets id body.now)) }
     ensures capacity { vec_capacity out.old ≤ vec_capacity out.new }
     // and how it is read back
-    ensures reads_back { OnOk result
-        (HasElement out.old.items out.new.items id (length body.now) (λ octets. octets ≡ body.now)) }
+    ensures reads_back { OnOk result (HasElement out.old.items out.new.items id (length body.now)
+        (λ octets. octets ≡ body.now)) }
 {
     let size = Size::Known(body.len() as u64);
     out.reserve(head_len(id, size) + body.len())?;

@@ -34,7 +34,8 @@ impl Model for Dispatch {
     ghost view = { λ d. record { requests = d.requests.items; reserved = d.reserved } };
 
     ghost invariant = { λ d. (length d.requests.items < 2 ^ 32)
-        × (d.reserved ≡ true → (deque_len d.requests < deque_capacity d.requests) × (length d.requests.items + 1 < 2 ^ 32)) };
+        × (d.reserved ≡ true → (deque_len d.requests < deque_capacity d.requests)
+        × (length d.requests.items + 1 < 2 ^ 32)) };
 }
 
 impl Dispatch {
@@ -88,8 +89,8 @@ impl Dispatch {
         self.requests.push_back_reserved(request);
     }
 
-    /// Puts a request behind the others. It is refused exactly where `reserve` would be, for want of
-    /// memory, and handed back; the queue is then as it was. With room reserved it is taken.
+    /// Puts a request behind the others. It is refused exactly where `reserve` would be, for want
+    /// of memory, and handed back; the queue is then as it was.
     pub fn enqueue(&mut self, request: Request) -> Result<(), Request>
         ensures taken { OnOk result (self.new ≡ after_enqueue self.old request) }
         ensures refused { IfErr result (λ r. r ≡ request) }
@@ -191,7 +192,8 @@ fn turn_one(
     requires some { 0 < length queue.old.items }
     requires room { deque_len queue.old ≤ deque_capacity queue.old }
     requires space { length removed.old.items
-        + length (filter (is_named client id) (take 1 queue.old.items)) ≤ deque_capacity removed.old }
+        + length (filter (is_named client id) (take 1 queue.old.items))
+        ≤ deque_capacity removed.old }
     ensures turned { (queue.new.items, removed.new.items) ≡
         turn (is_named client id) 1 (queue.old.items, removed.old.items) }
     ensures room { deque_len queue.new ≤ deque_capacity queue.new }

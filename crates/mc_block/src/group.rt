@@ -3,11 +3,11 @@ ghost use Rattle.std.specs.List.{list_any};
 ghost use Rattle.mc_block.specs.Group.{child_at, children_of, with_child, found_among};
 ghost use Rattle.mc_block.specs.Block.{Gives, group_body_of};
 
-use crate::body::MOST;
 use crate::error::BlockError;
 use crate::parts::BlockBody;
 use bytes::Bytes;
-use mc_ebml::{Size, read_head};
+use mc_ebml::{Size, ids, read_head};
+use mc_packet::LARGEST_BLOCK;
 
 /// A child of an element: its ID, and where its body begins and ends in its parent's body.
 #[derive(Clone, Copy, Debug, PartialEq, Eq)]
@@ -17,14 +17,12 @@ pub(crate) struct Child {
     pub(crate) stop: usize,
 }
 
-const BLOCK: u32 = 0xA1;
-
-const REFERENCE_BLOCK: u32 = 0xFB;
-
-// What is found so far among a group's children: its first Block, and whether one refers to another.
+// What is found so far among a group's children.
 #[derive(Clone, Copy)]
 struct Found {
+    // The first Block.
     block: Option<Child>,
+    // Whether a ReferenceBlock stands among them.
     refers: bool,
 }
 
@@ -33,7 +31,8 @@ struct Found {
 fn read_child(octets: &[u8], at: usize) -> Option<Child>
     requires { at ≤ length octets.now }
     ensures value { result ≡ child_at octets.now at }
-    ensures lies { IfSome result (λ c. (at < c.at) × (c.at ≤ c.stop) × (c.stop ≤ length octets.now)) }
+    ensures lies { IfSome result
+        (λ c. (at < c.at) × (c.at ≤ c.stop) × (c.stop ≤ length octets.now)) }
 {
     let head = read_head(octets, at).ok()?;
     let Size::Known(size) = head.size else {
@@ -53,10 +52,14 @@ impl Found {
     fn with(self, child: Child) -> Found
         ensures { result ≡ with_child self child }
     {
-        let block = if child.id == BLOCK { Some(child) } else { None };
+        let block = if child.id == ids::BLOCK {
+            Some(child)
+        } else {
+            None
+        };
         Found {
             block: self.block.or(block),
-            refers: self.refers || child.id == REFERENCE_BLOCK,
+            refers: self.refers || child.id == ids::REFERENCE_BLOCK,
         }
     }
 }
@@ -64,7 +67,8 @@ impl Found {
 // What the children tell, where each stands whole up to the end of the octets.
 fn read_children(octets: &[u8]) -> Option<Found>
     ensures value { result ≡ option_map found_among (children_of octets.now) }
-    ensures lies { IfSome result (λ f. IfSome f.block (λ c. (c.at ≤ c.stop) × (c.stop ≤ length octets.now))) }
+    ensures lies { IfSome result
+        (λ f. IfSome f.block (λ c. (c.at ≤ c.stop) × (c.stop ≤ length octets.now))) }
 {
     let mut found = Found {
         block: None,
@@ -93,7 +97,7 @@ pub fn group_body(body: &Bytes) -> Result<Option<BlockBody>, BlockError>
     ensures value { Gives result (group_body_of body.now) }
     ensures small { IfOk result (λ found. IfSome found (λ block. length block.octets ≤ 67108864)) }
 {
-    if body.len() > MOST {
+    if body.len() as u64 > LARGEST_BLOCK {
         return Err(BlockError::TooLarge);
     }
     let Some(found) = read_children(body.as_slice()) else {

@@ -38,6 +38,18 @@ is_other a b = true
 abbrev pub is_distinct : Choice → Bool
 is_distinct set = is_other set.video set.audio && (is_other set.video set.sub && is_other set.audio set.sub)
 
+-- ---- a test of each track
+
+-- no track, or one that passes
+abbrev pub passes : Option ℕ → (ℕ → Bool) → Bool
+passes None test = true
+passes (Some track) test = test track
+
+-- a choice of tracks that the film lists, each under its own kind and none under two
+abbrev pub is_known : (Kind → ℕ → Bool) → Choice → Bool
+is_known known set =
+    passes set.video (known Video) && (passes set.audio (known Audio) && (passes set.sub (known Sub) && is_distinct set))
+
 -- ---- what stands under a kind
 
 abbrev pub track_of : Choice → Kind → Option ℕ

@@ -23,17 +23,27 @@ Found (Err failures.NoMemory) P = ⊤
 
 -- what a command's first word asks for
 abbrev pub verb_of : List ℕ → Option Verb
-verb_of w = if bytes_eq w (codes "seek") then Some verbs.Seek else if bytes_eq w (codes "set") then Some verbs.Set else if bytes_eq w (codes "cycle") then Some verbs.Cycle else if bytes_eq w (codes "script-message") then Some verbs.Message else if bytes_eq w (codes "script-message-to") then Some verbs.MessageTo else if bytes_eq w (codes "ignore") then Some verbs.Ignore else if bytes_eq w (codes "quit") then Some verbs.Quit else None
+verb_of w =
+    if bytes_eq w (codes "seek") then Some verbs.Seek else
+    if bytes_eq w (codes "set") then Some verbs.Set else
+    if bytes_eq w (codes "cycle") then Some verbs.Cycle else
+    if bytes_eq w (codes "script-message") then Some verbs.Message else
+    if bytes_eq w (codes "script-message-to") then Some verbs.MessageTo else
+    if bytes_eq w (codes "ignore") then Some verbs.Ignore else
+    if bytes_eq w (codes "quit") then Some verbs.Quit else None
 
 -- whether the flag of a `seek` asks for an absolute time
 abbrev pub flag_of : List ℕ → Option Bool
-flag_of w = if bytes_eq w (codes "relative") then Some false else if bytes_eq w (codes "absolute") then Some true else None
+flag_of w =
+    if bytes_eq w (codes "relative") then Some false else
+    if bytes_eq w (codes "absolute") then Some true else None
 
 -- behind the flag of a `seek`: nothing, or `forward`
 abbrev pub seek_with : ℤ → Option Bool → List (List ℕ) → Result Command ℕ
 seek_with t None rest = Err 2
 seek_with t (Some absolute) [] = Ok (commands.Seek t absolute false)
-seek_with t (Some absolute) (w ∷ []) = if bytes_eq w (codes "forward") then Ok (commands.Seek t absolute true) else Err 3
+seek_with t (Some absolute) (w ∷ []) =
+    if bytes_eq w (codes "forward") then Ok (commands.Seek t absolute true) else Err 3
 seek_with t (Some absolute) (w ∷ x ∷ xs) = if bytes_eq w (codes "forward") then Err 4 else Err 3
 
 -- behind the seconds of a `seek`

@@ -24,16 +24,25 @@ abbrev pub ends_before : Result (List (List ℕ)) ℕ → Result (List (List ℕ
 ends_before (Ok ws) = Ok ([] ∷ ws)
 ends_before (Err n) = Err (n + 1)
 
--- the words that characters give from a place on, the rest of a word that was begun first; or how many words stand before the first wrong one
+-- the words that characters give from a place on, the rest of a word that was begun first; or how
+-- many words stand before the first wrong one
 abbrev pub words_from : Place → List ℕ → Result (List (List ℕ)) ℕ
 words_from Gap [] = Ok []
-words_from Gap (c ∷ cs) = if is_blank c then words_from Gap cs else if c == 34 then words_from Quoted cs else in_front (encode_utf8 c) (words_from Plain cs)
+words_from Gap (c ∷ cs) =
+    if is_blank c then words_from Gap cs else
+    if c == 34 then words_from Quoted cs else in_front (encode_utf8 c) (words_from Plain cs)
 words_from Plain [] = Ok ([] ∷ [])
-words_from Plain (c ∷ cs) = if is_blank c then ends_before (words_from Gap cs) else in_front (encode_utf8 c) (words_from Plain cs)
+words_from Plain (c ∷ cs) =
+    if is_blank c then ends_before (words_from Gap cs) else
+    in_front (encode_utf8 c) (words_from Plain cs)
 words_from Quoted [] = Err 0
-words_from Quoted (c ∷ cs) = if c == 34 then words_from Closed cs else if c == 92 then words_from Escape cs else in_front (encode_utf8 c) (words_from Quoted cs)
+words_from Quoted (c ∷ cs) =
+    if c == 34 then words_from Closed cs else
+    if c == 92 then words_from Escape cs else in_front (encode_utf8 c) (words_from Quoted cs)
 words_from Escape [] = Err 0
-words_from Escape (c ∷ cs) = if is_special c then in_front (encode_utf8 c) (words_from Quoted cs) else in_front (92 ∷ encode_utf8 c) (words_from Quoted cs)
+words_from Escape (c ∷ cs) =
+    if is_special c then in_front (encode_utf8 c) (words_from Quoted cs) else
+    in_front (92 ∷ encode_utf8 c) (words_from Quoted cs)
 words_from Closed [] = Ok ([] ∷ [])
 words_from Closed (c ∷ cs) = if is_blank c then ends_before (words_from Gap cs) else Err 0
 words_from Broken cs = Err 0
@@ -63,7 +72,8 @@ begun Broken word more = in_front word more
 
 -- the words of a scan and the characters still to come
 abbrev pub resumed : Scan → List ℕ → Result (List (List ℕ)) ℕ
-resumed s more = behind_words s.words (begun s.place (string_bytes s.word) (words_from s.place more))
+resumed s more =
+    behind_words s.words (begun s.place (string_bytes s.word) (words_from s.place more))
 
 -- a scan that took one character more gives the same words
 abbrev pub Takes : Scan → Scan → ℕ → Type 0

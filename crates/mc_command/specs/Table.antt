@@ -11,13 +11,19 @@ flag false = codes "relative"
 
 -- the words of each command
 pub data Says : List (List ℕ) → Command → Type 0 where
-  seek : (s : List ℕ) (t : ℤ) → seconds_of s ≡ Some t → Says (codes "seek" ∷ s ∷ []) (commands.Seek t false false)
-  seek_by_flag : (s : List ℕ) (t : ℤ) (absolute : Bool) → seconds_of s ≡ Some t → Says (codes "seek" ∷ s ∷ flag absolute ∷ []) (commands.Seek t absolute false)
-  seek_forward : (s : List ℕ) (t : ℤ) (absolute : Bool) → seconds_of s ≡ Some t → Says (codes "seek" ∷ s ∷ flag absolute ∷ codes "forward" ∷ []) (commands.Seek t absolute true)
+  seek : (s : List ℕ) (t : ℤ) → seconds_of s ≡ Some t
+      → Says (codes "seek" ∷ s ∷ []) (commands.Seek t false false)
+  seek_by_flag : (s : List ℕ) (t : ℤ) (absolute : Bool) → seconds_of s ≡ Some t
+      → Says (codes "seek" ∷ s ∷ flag absolute ∷ []) (commands.Seek t absolute false)
+  seek_forward : (s : List ℕ) (t : ℤ) (absolute : Bool) → seconds_of s ≡ Some t
+      → Says (codes "seek" ∷ s ∷ flag absolute ∷ codes "forward" ∷ [])
+      (commands.Seek t absolute true)
   set : (name value : List ℕ) → Says (codes "set" ∷ name ∷ value ∷ []) (commands.Set name value)
   cycle : (name : List ℕ) → Says (codes "cycle" ∷ name ∷ []) (commands.Cycle name)
-  message : (w : List ℕ) (ws : List (List ℕ)) → Says (codes "script-message" ∷ w ∷ ws) (commands.Message (w ∷ ws))
-  message_to : (client w : List ℕ) (ws : List (List ℕ)) → Says (codes "script-message-to" ∷ client ∷ w ∷ ws) (commands.MessageTo client (w ∷ ws))
+  message : (w : List ℕ) (ws : List (List ℕ))
+      → Says (codes "script-message" ∷ w ∷ ws) (commands.Message (w ∷ ws))
+  message_to : (client w : List ℕ) (ws : List (List ℕ))
+      → Says (codes "script-message-to" ∷ client ∷ w ∷ ws) (commands.MessageTo client (w ∷ ws))
   ignore : Says (codes "ignore" ∷ []) commands.Ignore
   quit : Says (codes "quit" ∷ []) commands.Quit
 
@@ -25,7 +31,8 @@ pub data Says : List (List ℕ) → Command → Type 0 where
 abbrev pub Starts : List (List ℕ) → Type 0
 Starts ws = (more : List (List ℕ)) × (command : Command) × Says (ws ++ more) command
 
--- the number of the first wrong or missing word of words that are no command: some command begins with those before it, and none with it too
+-- the number of the first wrong or missing word of words that are no command: some command begins
+-- with those before it, and none with it too
 pub record IsFirstBad (ws : List (List ℕ)) (n : ℕ) : Type 0 where
   pub within : n ≤ length ws
   pub before : Starts (take n ws)

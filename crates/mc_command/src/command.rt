@@ -8,26 +8,35 @@ pub enum Command {
     /// time on. It goes to a keyframe: to the last that is not behind that time, or with `forward`
     /// to the first that is not before it.
     Seek {
+        /// Nanoseconds, at most 2^62 on either side of 0.
         t: i64,
+        /// Whether `t` is a time, and no distance.
         absolute: bool,
+        /// Whether the keyframe is one that is not before that time.
         forward: bool,
     },
     /// Sets a property to a text, as a client's `set` of that string.
     Set {
+        /// The property's name.
         name: Text,
+        /// What it is set to, as a text.
         value: Text,
     },
     /// Turns a flag over.
     Cycle {
+        /// The property's name.
         name: Text,
     },
     /// Words to every client.
     Message {
+        /// At least one word.
         words: Words,
     },
     /// Words to one client.
     MessageTo {
+        /// The client's name.
         client: Text,
+        /// At least one word.
         words: Words,
     },
     /// Nothing.

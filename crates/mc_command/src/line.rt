@@ -9,10 +9,10 @@ use crate::scan::Scan;
 use mc_value::Words;
 use std::alloc::Global;
 
-/// The words of a line, after the flat command syntax in mpv's manual. Words stand between spaces and
-/// tabs. One that begins with `"` runs to the next `"`, with `\"` and `\\` for a quote and a backslash
-/// in it, and a space, a tab or the line's end must follow. All other characters stand for
-/// themselves. A line may have no word.
+/// The words of a line, after the flat command syntax in mpv's manual. Words stand between spaces
+/// and tabs. One that begins with `"` runs to the next `"`, with `\"` and `\\` for a quote and a
+/// backslash in it, and a space, a tab or the line's end must follow. All other characters stand
+/// for themselves. A line may have no word.
 ///
 /// `Bad` names the first thing that is no word, by the number of the words before it: a quote that
 /// is not closed, or a quoted word with something behind it. `NoMemory` where there is none for the
@@ -22,7 +22,8 @@ pub fn split_line(alloc: Global, line: &str) -> Result<Words, CommandError>
     // The words, or the number, are as the rules of quoting spell them in the line's characters.
     ensures spelled { Found result (Spells (chars line.now)) }
     // They are the only ones.
-    ensures only { (said : Result (List (List ℕ)) ℕ) → Spells (chars line.now) said → Parses result said }
+    ensures only { (said : Result (List (List ℕ)) ℕ)
+        → Spells (chars line.now) said → Parses result said }
 {
     scan_line(alloc, line)
 }

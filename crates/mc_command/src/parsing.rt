@@ -12,12 +12,19 @@ use std::alloc::Global;
 /// What a command's first word asks for.
 #[derive(Clone, Copy)]
 pub enum Verb {
+    /// `seek`.
     Seek,
+    /// `set`.
     Set,
+    /// `cycle`.
     Cycle,
+    /// `script-message`.
     Message,
+    /// `script-message-to`.
     MessageTo,
+    /// `ignore`.
     Ignore,
+    /// `quit`.
     Quit,
 }
 

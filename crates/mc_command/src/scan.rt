@@ -28,8 +28,11 @@ pub enum Place {
 /// The words of the characters so far, and the one that was begun.
 #[derive(Drop)]
 pub struct Scan {
+    /// Where the next character stands.
     pub place: Place,
+    /// The words that have ended.
     pub words: Words,
+    /// The characters so far of the word that was begun; outside a word it says nothing.
     pub word: String,
 }
 
@@ -129,14 +132,16 @@ impl Scan {
     fn push(&mut self, c: char) -> Result<(), NoMemory>
         ensures words { self.new.words ≡ self.old.words }
         ensures place { self.new.place ≡ self.old.place }
-        ensures word { OnOk result (string_bytes self.new.word ≡ string_bytes self.old.word ++ encode_utf8 c) }
+        ensures word { OnOk result (string_bytes self.new.word ≡
+            string_bytes self.old.word ++ encode_utf8 c) }
     {
         self.word.push(c)
     }
 
     /// The word that was begun is whole.
     fn end_word(&mut self) -> Result<(), NoMemory>
-        ensures words { OnOk result (self.new.words ≡ self.old.words ++ string_bytes self.old.word ∷ []) }
+        ensures words { OnOk result (self.new.words ≡
+            self.old.words ++ string_bytes self.old.word ∷ []) }
         ensures place { OnOk result (self.new.place ≡ Gap) }
     {
         let alloc = *self.word.allocator();

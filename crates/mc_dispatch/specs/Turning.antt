@@ -1,4 +1,5 @@
--- How a queue is parted in its own room: request by request, what passes the test leaves, and what does not goes behind the others.
+-- How a queue is parted in its own room: request by request, what passes the test leaves, and what
+-- does not goes behind the others.
 use Rattle.std.specs.Prelude.{ℕ, Bool, if◌then◌else◌, zero, suc, List, [], ◌∷◌, ◌++◌}
 use Rattle.mc_dispatch.specs.declared.request.Request.{Request}
 

@@ -9,13 +9,13 @@ use std::alloc::Global;
 /// are answered at once.
 #[derive(Debug, Drop)]
 pub enum Call {
-    /// A command is run.
+    /// A command is run: its words, and the number that its reply bears.
     Command { id: u64, words: Words },
-    /// A property is read.
+    /// A property is read: the reply has its value in the format.
     Get { id: u64, name: Text, format: Format },
-    /// A property is set.
+    /// A property is set to the value.
     Set { id: u64, name: Text, value: Value },
-    /// A property is observed, from now on.
+    /// A property is observed in the format from now on, under the number `id`.
     Observe { id: u64, name: Text, format: Format },
     /// The observers with the number go.
     Unobserve { id: u64 },

@@ -13,7 +13,8 @@ use Rattle.mc_ring.specs.declared.calls.RingAnswer.TheVariants.{Reserved, Refuse
 
 -- One call
 
--- the conditions of a call: a place to be given back or used up is set aside, and what is pushed is an event that rings hold
+-- the conditions of a call: a place to be given back or used up is set aside, and what is pushed is
+-- an event that rings hold
 abbrev pub IsAllowed : RingState → RingCall → Type 0
 IsAllowed s Reserve = Unit {0}
 IsAllowed s Unreserve = 0 < s.reserved
@@ -78,7 +79,8 @@ kept ts = flat_map kept_by ts
 abbrev pub popped : List Told → List Event
 popped ts = flat_map popped_by ts
 
--- the requests for which a place was set aside, and those whose place was given back or used up by the reply
+-- the requests for which a place was set aside, and those whose place was given back or used up by
+-- the reply
 abbrev pub accepted_by : Told → ℕ
 accepted_by (Reserve, Reserved) = 1
 accepted_by t = 0
@@ -112,12 +114,14 @@ pub record IsLawful (size : ℕ) (told : List Told) (s : RingState) : Type 0 whe
   pub prefix : IsPrefix (popped told) (kept told)
   pub held : kept told ≡ popped told ++ s.events
   -- a reply that was pushed was popped, or the ring holds it
-  pub replies : (e : Event) → Contains told (PushReply e, PushedReply) → Contains (popped told ++ s.events) e
+  pub replies : (e : Event) → Contains told (PushReply e, PushedReply)
+      → Contains (popped told ++ s.events) e
   -- each accepted request that has not ended has its place
   pub places : accepted told ≡ ended told + s.reserved
   pub room : length s.events + s.reserved ≤ size
   -- an overflow is told between a drop and the next event that is kept
-  pub overflow : (before between behind : List Told) (e f : Event) → told ≡ before ++ drops e ∷ (between ++ keeps f ∷ behind) → Contains between tells
+  pub overflow : (before between behind : List Told) (e f : Event)
+      → told ≡ before ++ drops e ∷ (between ++ keeps f ∷ behind) → Contains between tells
 
 -- every list of allowed calls of a new ring keeps the law
 abbrev pub KeepsLaw : ℕ → RingState → Type 0

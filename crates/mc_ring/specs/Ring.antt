@@ -6,7 +6,8 @@ use Rattle.mc_ring.specs.declared.ring.QueueFull.{QueueFull}
 use Rattle.mc_ring.specs.declared.ring.Pushed.{Pushed}
 use Rattle.mc_ring.specs.declared.ring.Pushed.TheVariants.{Kept, Dropped}
 
--- the events that it holds, the oldest first; the places set aside for replies; how many of both there may be; and whether an event was dropped of which no overflow has told yet
+-- the events that it holds, the oldest first; the places set aside for replies; how many of both
+-- there may be; and whether an event was dropped of which no overflow has told yet
 pub record RingState : Type 0 where
   pub events : List Event
   pub reserved : ℕ
@@ -33,7 +34,12 @@ is_full s = (length s.events + s.reserved == s.size) || s.choked
 
 -- the four numbers of a refusal
 abbrev pub full_of : RingState → QueueFull
-full_of s = record { held = length s.events; reserved = s.reserved; max = s.size; choked = s.choked }
+full_of s = record {
+  held = length s.events;
+  reserved = s.reserved;
+  max = s.size;
+  choked = s.choked;
+}
 
 -- with that many places set aside
 abbrev pub with_reserved : RingState → ℕ → RingState

@@ -1,4 +1,4 @@
-ghost use Rattle.std.specs.Prelude.{◌≡◌};
+ghost use Rattle.std.specs.Prelude.{◌≡◌, ◌↔◌, IsTrue};
 ghost use Rattle.mc_ring.specs.Law.{IsAllowed, after, answer};
 
 use crate::event::Event;
@@ -41,6 +41,19 @@ pub enum RingAnswer {
 }
 
 impl Ring {
+    /// Whether `apply` may make the call: a place to be given back or used up is set aside, and
+    /// what is pushed is an event that rings hold.
+    pub fn is_allowed(&self, call: &RingCall) -> bool
+        ensures { IsTrue result ↔ IsAllowed self.now call.now }
+    {
+        match call {
+            RingCall::Unreserve => self.reserved() > 0,
+            RingCall::PushEvent(event) => event.enters_ring(),
+            RingCall::PushReply(reply) => self.reserved() > 0 && reply.enters_ring(),
+            RingCall::Reserve | RingCall::Pop | RingCall::TakeOverflow => true,
+        }
+    }
+
     /// Makes the call, and gives its answer: `answer` and `after` of `specs/Law.antt`, over which
     /// the law of a ring's calls is stated at `Ring::new`.
     pub fn apply(&mut self, call: RingCall) -> RingAnswer

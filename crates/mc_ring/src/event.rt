@@ -31,7 +31,8 @@ pub enum Event {
     },
     /// A file is about to be opened.
     StartFile,
-    /// A file has ended, for a reason of `client.h`: 0 at its end, 2 stopped, 3 quit, 4 by an error.
+    /// A file has ended, for a reason of `client.h`: 0 at its end, 2 stopped, 3 quit, 4 by an
+    /// error.
     EndFile {
         reason: u32,
     },

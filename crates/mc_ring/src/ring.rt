@@ -34,9 +34,13 @@ impl From<AllocError> for RingError {
 /// whether an overflow is still to be told. A client's request is then answered -1.
 #[derive(Clone, Copy, Debug, PartialEq, Eq)]
 pub struct QueueFull {
+    /// The events and replies that the ring holds.
     pub held: u32,
+    /// The places set aside for replies.
     pub reserved: u32,
+    /// The ring's size, which both together may have.
     pub max: u32,
+    /// Whether an event was dropped of which no overflow has told yet.
     pub choked: bool,
 }
 
@@ -52,9 +56,13 @@ pub enum Pushed {
 /// A client's ring of events, of a size that is fixed when it is made. Only `new` takes memory.
 #[derive(Drop)]
 pub struct Ring {
+    // what was taken in and not popped, the oldest first: written by both pushes and by `pop`
     events: HeapCircularBuffer<Event>,
+    // one more by `reserve`, one less by `unreserve` and by `push_reply`
     reserved: u32,
+    // from 1 to 100,000; set by `new` alone
     size: u32,
+    // set where `push_event` drops its event, and false again at `take_overflow`
     choked: bool,
 }
 
@@ -68,9 +76,19 @@ impl Model for Ring {
 
     ghost coded = { Prim.hlevel (codes, value.the_row.coded) };
 
-    ghost view = { λ r. record { events = r.events.items; reserved = r.reserved; size = r.size; choked = r.choked } };
+    ghost view = { λ r. record {
+      events = r.events.items;
+      reserved = r.reserved;
+      size = r.size;
+      choked = r.choked;
+    } };
 
-    ghost invariant = { λ r. IsRing (record { events = r.events.items; reserved = r.reserved; size = r.size; choked = r.choked }) × (r.size ≤ r.events.capacity) };
+    ghost invariant = { λ r. IsRing (record {
+      events = r.events.items;
+      reserved = r.reserved;
+      size = r.size;
+      choked = r.choked;
+    }) × (r.size ≤ r.events.capacity) };
 }
 
 impl Ring {
@@ -187,7 +205,15 @@ impl Ring {
         choked
     }
 
-    fn is_full(&self) -> bool
+    /// The places that are set aside for replies.
+    pub fn reserved(&self) -> u32
+        ensures { result ≡ self.now.reserved }
+    {
+        self.reserved
+    }
+
+    /// Whether no place is free, or an overflow is still to be told: where `reserve` is refused.
+    pub fn is_full(&self) -> bool
         ensures value { result ≡ is_full self.now }
         ensures ring { IsRing self.now }
     {

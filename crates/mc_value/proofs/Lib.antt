@@ -1,4 +1,5 @@
 pub mod DigitLemmas
 pub mod MapLemmas
 pub mod PathLemmas
+pub mod Same
 pub mod SecondsLemmas

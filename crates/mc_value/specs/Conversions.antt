@@ -17,7 +17,8 @@ use Rattle.mc_value.specs.declared.value.ValueError.TheVariants as failures
 abbrev pub flag_text : Bool → List ℕ
 flag_text b = if b then codes "yes" else codes "no"
 
--- the text of a value that is seen: a string itself, a flag as `yes` or `no`, a number's digits, else JSON
+-- the text of a value that is seen: a string itself, a flag as `yes` or `no`, a number's digits,
+-- else JSON
 abbrev pub text_at : Value → Value-F Value → List ℕ
 text_at v (Value-F.Str s) = s
 text_at v (Value-F.Flag b) = flag_text b
@@ -30,7 +31,9 @@ text_of v = text_at v (out-Value v)
 
 -- the flag that a text says
 abbrev pub flag_said : List ℕ → Option Bool
-flag_said s = if bytes_eq s (codes "yes") then Some true else if bytes_eq s (codes "no") then Some false else None
+flag_said s =
+    if bytes_eq s (codes "yes") then Some true else
+    if bytes_eq s (codes "no") then Some false else None
 
 -- the flag of a value: a flag itself, or what a string says
 abbrev pub as_flag : Value-F Value → Option Bool

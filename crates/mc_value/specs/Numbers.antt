@@ -26,7 +26,8 @@ signed false (Some n) = if nat_lt n (2 ^ 63) then Some (pos n) else None
 -- the whole number that an optional `-` and digits stand for
 abbrev pub whole_number_of : List ℕ → Option ℤ
 whole_number_of [] = None
-whole_number_of (c ∷ cs) = if c == 45 then signed true (number_of cs) else signed false (number_of (c ∷ cs))
+whole_number_of (c ∷ cs) =
+    if c == 45 then signed true (number_of cs) else signed false (number_of (c ∷ cs))
 
 -- a place in an array: a number without a needless 0 in front
 abbrev pub place_of : List ℕ → Option ℕ

@@ -26,7 +26,7 @@ item_at vs (Some i) = slice_get vs i
 abbrev pub is_named : List ℕ → List ℕ × Value → Bool
 is_named name p = bytes_eq p.0 name
 
--- the value to which a step leads: at a place of an array, or in the first pair of that name of a map
+-- the value to which a step leads: at a place of an array, or in a map's first pair of that name
 abbrev pub inner_at : List ℕ → Value-F Value → Option Value
 inner_at s (Value-F.Array vs) = item_at vs (place_of s)
 inner_at s (Value-F.Map ps) = option_map (λ p. p.1) (find (is_named s) ps)
@@ -34,7 +34,9 @@ inner_at s _ = None
 
 -- the last step's: `count` is an array's length, as far as an `i64` holds it
 abbrev pub last_at : List ℕ → Value-F Value → Option Value
-last_at s (Value-F.Array vs) = if bytes_eq s (codes "count") then Some (value.Int (pos (min (length vs) (2 ^ 63 - 1)))) else inner_at s (Value-F.Array vs)
+last_at s (Value-F.Array vs) =
+    if bytes_eq s (codes "count") then Some (value.Int (pos (min (length vs) (2 ^ 63 - 1))))
+    else inner_at s (Value-F.Array vs)
 last_at s v = inner_at s v
 
 -- the value to which steps lead, one inside the other

@@ -34,12 +34,17 @@ unsigned_seconds cs = around_point (position (λ c. c == 46) cs) cs
 -- a time with its sign, where it is at most 2^62 nanoseconds on either side of 0
 abbrev pub time_of : Bool → Option ℕ → Option ℤ
 time_of minus None = None
-time_of minus (Some n) = if nat_le n (2 ^ 62) then Some (if minus then neg_ℤ (pos n) else pos n) else None
+time_of minus (Some n) =
+    if nat_le n (2 ^ 62) then Some (if minus then neg_ℤ (pos n) else pos n) else None
 
--- the nanoseconds of a text of seconds: an optional sign, 1 to 10 digits, and optionally a point and 1 to 9 digits
+-- the nanoseconds of a text of seconds: an optional sign, 1 to 10 digits, and optionally a point
+-- and 1 to 9 digits
 abbrev pub seconds_of : List ℕ → Option ℤ
 seconds_of [] = None
-seconds_of (c ∷ cs) = if c == 45 then time_of true (unsigned_seconds cs) else if c == 43 then time_of false (unsigned_seconds cs) else time_of false (unsigned_seconds (c ∷ cs))
+seconds_of (c ∷ cs) =
+    if c == 45 then time_of true (unsigned_seconds cs) else
+    if c == 43 then time_of false (unsigned_seconds cs) else
+    time_of false (unsigned_seconds (c ∷ cs))
 
 -- a number's last digit
 abbrev pub digit : ℕ → ℕ
@@ -76,6 +81,6 @@ abbrev pub floor_to_micros : ℤ → ℤ
 floor_to_micros (pos n) = pos (n / 1000 * 1000)
 floor_to_micros (negsuc n) = neg_ℤ (pos ((n / 1000 + 1) * 1000))
 
--- a text is read back as the floor of the time that it was written for, where that is within the bounds
+-- a text is read back as the floor of the time that it was written for, where the bounds allow it
 abbrev pub ReadsBack : ℤ → List ℕ → Type 0
 ReadsBack z text = micros_of z * 1000 ≤ 2 ^ 62 → seconds_of text ≡ Some (floor_to_micros z)

@@ -9,9 +9,12 @@ use Rattle.mc_value.specs.declared.value.Value.TheOpen.{Value-F}
 abbrev pub hex_digit : ℕ → ℕ
 hex_digit d = if nat_lt d 10 then 48 + d else 87 + d
 
--- a character inside a JSON string: `"` and `\` stand behind a `\`, and one below U+0020 is `\u00xx`
+-- a character in a JSON string: `"` and `\` stand behind a `\`, and one below U+0020 is `\u00xx`
 abbrev pub escaped : ℕ → List ℕ
-escaped c = if c == 34 || c == 92 then 92 ∷ c ∷ [] else if nat_lt c 32 then codes "\\u00" ++ (hex_digit (c / 16) ∷ hex_digit (c % 16) ∷ []) else encode_utf8 c
+escaped c =
+    if c == 34 || c == 92 then 92 ∷ c ∷ [] else
+    if nat_lt c 32 then codes "\\u00" ++ (hex_digit (c / 16) ∷ hex_digit (c % 16) ∷ []) else
+    encode_utf8 c
 
 -- a text as a JSON string
 abbrev pub json_string : List ℕ → List ℕ

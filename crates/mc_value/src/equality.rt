@@ -1,15 +1,19 @@
 ghost use Rattle.std.specs.Prelude.{◌≡◌, ◌↔◌, IsTrue};
+ghost use Rattle.mc_value.specs.Sameness.{SameIsExact, same_value};
 ghost use Rattle.mc_value.specs.declared.value.Value.TheVariants as value;
 
 use crate::text::Text;
 use crate::value::Value;
 
 impl Value {
-    /// Whether both are the same value: of one kind, with the same text or number, the same items or
-    /// the same names and values, in the same order.
+    /// Whether both are the same value: of one kind, with the same text or number, the same items
+    /// or the same names and values, in the same order.
     #[cycle(equality)]
+    #[tactic(auto, using(crate::proofs::Same::exact, crate::proofs::Same::told))]
     pub fn equals(&self, other: &Value) -> bool
-        ensures { IsTrue result ↔ (self.now ≡ other.now) }
+        ensures equal { IsTrue result ↔ (self.now ≡ other.now) }
+        ensures same { result ≡ same_value self.now other.now }
+        ensures law { SameIsExact }
     {
         match self {
             Value::None => is_none(other),

@@ -15,7 +15,8 @@ pub fn push_json_string(out: &mut String, text: &str) -> Result<(), NoMemory>
 }
 
 fn push_escaped_all(out: &mut String, text: &str) -> Result<(), NoMemory>
-    ensures { OnOk result (string_bytes out.new ≡ string_bytes out.old ++ flat_map escaped (chars text.now)) }
+    ensures { OnOk result (string_bytes out.new ≡
+        string_bytes out.old ++ flat_map escaped (chars text.now)) }
 {
     for c in text.chars() {
         push_escaped(out, c)?;
@@ -37,7 +38,8 @@ fn push_escaped(out: &mut String, c: char) -> Result<(), NoMemory>
 }
 
 fn push_control(out: &mut String, code: u8) -> Result<(), NoMemory>
-    ensures { OnOk result (string_bytes out.new ≡ string_bytes out.old ++ (codes "\\u00" ++ (hex_digit (code / 16) ∷ hex_digit (code % 16) ∷ []))) }
+    ensures { OnOk result (string_bytes out.new ≡ string_bytes out.old
+        ++ (codes "\\u00" ++ (hex_digit (code / 16) ∷ hex_digit (code % 16) ∷ []))) }
 {
     out.push_str("\\u00")?;
     out.push(digit_of(code / 16))?;

@@ -1,7 +1,8 @@
-//! The values that a client of the player sends and is sent: texts, flags, whole numbers, arrays and
-//! maps, as libmpv's client interface has them. It takes Rust's own strings and numbers, and gives
-//! values in another format (`convert`), as texts (`value_text`, `json`, `seconds_text`), and parts
-//! of them (`path`). Each answer is the definition's of `specs/`; contracts see a `Text` as its octets.
+//! The values that a client of the player sends and is sent: texts, flags, whole numbers, arrays
+//! and maps, as libmpv's client interface has them. It takes Rust's own strings and numbers, and
+//! gives values in another format (`convert`), as texts (`value_text`, `json`, `seconds_text`), and
+//! parts of them (`path`). Each answer is the definition's of `specs/`; contracts see a `Text` as
+//! its octets.
 #![tactic(auto)]
 
 mod conversion;
@@ -23,6 +24,3 @@ pub use seconds::{parse_seconds, seconds_text};
 pub use text::{NoMemory, Text, Words, copy_words};
 pub use tree::json;
 pub use value::{Format, Pairs, Value, ValueError, Values, copy_pairs, copy_values};
-
-#[cfg(test)]
-mod tests;

@@ -12,6 +12,7 @@ pub type NoMemory = AllocError;
 /// A text that is kept, in UTF-8.
 #[derive(Debug, Drop)]
 pub struct Text {
+    // set by `new`, `from_string` and `copy`, and then read alone
     string: String,
 }
 

@@ -38,7 +38,8 @@ fn push_json(out: &mut String, value: &Value) -> Result<(), NoMemory>
 
 #[cycle(tree)]
 fn push_values(out: &mut String, values: &[Value]) -> Result<(), NoMemory>
-    ensures { OnOk result (string_bytes out.new ≡ string_bytes out.old ++ with_commas (map json_of values.now)) }
+    ensures { OnOk result (string_bytes out.new ≡
+        string_bytes out.old ++ with_commas (map json_of values.now)) }
 {
     let [first, rest @ ..] = values else {
         return Ok(());
@@ -54,7 +55,8 @@ fn push_values(out: &mut String, values: &[Value]) -> Result<(), NoMemory>
 #[cycle(tree)]
 fn push_map(out: &mut String, pairs: &[(Text, Value)]) -> Result<(), NoMemory>
     ensures { OnOk result (string_bytes out.new ≡ string_bytes out.old
-        ++ (123 ∷ with_commas (map json_pair (map (λ p. (p.0, json_of p.1)) pairs.now)) ++ 125 ∷ [])) }
+        ++ (123 ∷ with_commas (map json_pair (map (λ p. (p.0, json_of p.1)) pairs.now))
+        ++ 125 ∷ [])) }
 {
     out.push('{')?;
     push_pairs(out, pairs)?;
@@ -80,7 +82,8 @@ fn push_pairs(out: &mut String, pairs: &[(Text, Value)]) -> Result<(), NoMemory>
 }
 
 fn push_name(out: &mut String, name: &str) -> Result<(), NoMemory>
-    ensures { OnOk result (string_bytes out.new ≡ string_bytes out.old ++ (json_string name.now ++ 58 ∷ [])) }
+    ensures { OnOk result (string_bytes out.new ≡
+        string_bytes out.old ++ (json_string name.now ++ 58 ∷ [])) }
 {
     push_json_string(out, name)?;
     out.push(':')

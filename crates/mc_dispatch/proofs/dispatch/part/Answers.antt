@@ -11,6 +11,7 @@ loop-preserved c =
       parting = goes_on _ _ _ _ _ _ _ _ _ more c.loop.invariant.parting c.turn_one.ensures.turned;
       room = c.turn_one.ensures.room;
       space = c.turn_one.ensures.space ∙ c.loop.invariant.space;
+      capacity = c.turn_one.ensures.capacity ∙ c.loop.invariant.capacity;
     }
 
 pub returns-clause-kept : goal.returns-clause-kept

@@ -10,4 +10,5 @@ invariant-loop l = record {
   parting : Parting (is_named l.client l.id) (l.budget - l.counter) (turn (is_named l.client l.id) (length l.fn.queue.items) (l.fn.queue.items, l.fn.removed.items)) l.queue.items l.removed.items (deque_capacity l.fn.removed);
   room : deque_len l.queue ≤ deque_capacity l.queue;
   space : deque_capacity l.removed ≡ deque_capacity l.fn.removed;
+  capacity : deque_capacity l.queue ≡ deque_capacity l.fn.queue;
 }

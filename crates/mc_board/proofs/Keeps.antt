@@ -5,7 +5,7 @@ use lib.ListN.{get_elem?}
 use Rattle.crossbeam_utils.specs.Register.{Turns, Forks, Merges}
 use Rattle.atomic_table.proofs.Lists.{set_else, set_again}
 use Rattle.mc_views.specs.Views.{Each}
-use Rattle.mc_views.proofs.Views.{each_set, each_snoc, apart_set, apart_less, apart_snoc, apart_join}
+use Rattle.mc_views.specs.Laws.{each_set, each_snoc, apart_set, apart_less, apart_snoc, apart_join}
 use Rattle.mc_packet.specs.declared.cache.Status.{Status}
 use Rattle.mc_board.specs.declared.law.Posted.{Posted}
 use Rattle.mc_board.specs.declared.law.View.{View}

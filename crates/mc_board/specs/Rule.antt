@@ -4,7 +4,7 @@ use mathlib.Core.Option.{some}
 use lib.ListN.{get_elem?}
 use Rattle.mc_packet.specs.declared.cache.Status.{Status}
 use Rattle.mc_views.specs.Views.{Each, Apart}
-use Rattle.mc_board.specs.Statuses.{Has, NotNewer}
+use Rattle.mc_board.specs.Statuses.{Falling, Has, NotNewer}
 use Rattle.mc_board.specs.declared.law.Posted.{Posted}
 use Rattle.mc_board.specs.declared.law.View.{View}
 use Rattle.mc_board.specs.declared.law.Role.{Role}
@@ -20,6 +20,10 @@ fresh = view_of Fresh [] []
 
 abbrev pub poster : List Status → View
 poster posted = view_of Posts posted []
+
+-- what a poster knows of what it posted: it has it all, and none is newer than one after it
+abbrev pub IsPosting : View → Type 0
+IsPosting v = (v ≡ poster v.posted) × Falling v.posted
 
 abbrev pub looker : List Status → View
 looker seen = view_of Looks [] seen

@@ -17,6 +17,16 @@ abbrev pub MayFollow : List Status → Status → Type 0
 MayFollow [] s = Unit {0}
 MayFollow (x ∷ xs) s = x.seq ≤ s.seq
 
+-- none of the statuses is newer than one in front of it
+abbrev pub Falling : List Status → Type 0
+Falling [] = Unit {0}
+Falling (x ∷ xs) = NotNewer xs x × Falling xs
+
+-- s is not newer than the first of the statuses
+abbrev pub UpToFirst : List Status → Status → Type 0
+UpToFirst [] s = ⊥
+UpToFirst (x ∷ xs) s = s.seq ≤ x.seq
+
 -- which board the poster is of, and what was posted on it, from the first status on
 pub record Posting : Type 0 where
   pub board : TableId
@@ -32,3 +42,7 @@ posting board posted = record { board = board; posted = posted }
 
 abbrev pub looking : TableId → List Status → Looking
 looking board seen = record { board = board; seen = seen }
+
+-- the board is new: the poster has posted the first status, and the pass has seen nothing
+abbrev pub IsFirst : TableId → Status → Posting → Looking → Type 0
+IsFirst board first poster pass = (poster ≡ posting board (first ∷ [])) × (pass ≡ looking board [])

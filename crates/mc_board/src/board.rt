@@ -1,8 +1,19 @@
 ghost use Rattle.std.specs.Prelude.{◌≡◌, ◌≤◌, [], ◌∷◌, IfOk};
 ghost use Rattle.atomic_table.specs.Seated.{TableId};
 ghost use Rattle.crossbeam_utils.specs.Seq.{cell_view};
-ghost use Rattle.mc_board.specs.Rule.{poster, looker};
-ghost use Rattle.mc_board.specs.Statuses.{Has, NotNewer, MayFollow, Posting, Looking, posting, looking};
+ghost use Rattle.mc_board.specs.Rule.{IsPosting, looker};
+ghost use Rattle.mc_board.specs.Statuses.{
+  Falling,
+  Has,
+  IsFirst,
+  Looking,
+  MayFollow,
+  NotNewer,
+  Posting,
+  UpToFirst,
+  looking,
+  posting,
+};
 
 use crate::law::{Add, Begin, Copied, Law, Learn, Posted, See, Told, View};
 use crossbeam_utils::atomic::seq_cell::{Pass, RuledSeqCell};
@@ -14,6 +25,7 @@ use std::sync::Wait;
 /// A board that shows the last status posted. A status is read and posted whole.
 #[derive(Drop)]
 pub struct Board {
+    // made by `new`, and written by `post` alone
     cell: RuledSeqCell<Posted, View, Law, 4>,
 }
 
@@ -27,6 +39,7 @@ impl Model for Board {
 /// `Posting`: the board, and all that was posted, the newest first.
 #[derive(Drop)]
 pub struct Poster {
+    // what it has posted, in proofs alone: written by `post`
     pass: Pass<Posted, View>,
 }
 
@@ -35,13 +48,14 @@ impl Model for Poster {
 
     ghost view = { λ p. posting p.pass.table_id (cell_view p.pass).posted };
 
-    ghost invariant = { λ p. cell_view p.pass ≡ poster (cell_view p.pass).posted };
+    ghost invariant = { λ p. IsPosting (cell_view p.pass) };
 }
 
 /// One who may look at the board from whose `new` it came, by splits or without. A contract
 /// sees it as a `Looking`: the board, and the statuses that it has seen, the newest first.
 #[derive(Drop)]
 pub struct BoardPass {
+    // what it has seen, in proofs alone: written by `look`
     pass: Pass<Posted, View>,
 }
 
@@ -60,7 +74,7 @@ impl Board {
         alloc: Global,
         first: Status,
     ) -> Result<(Board, Poster, BoardPass), NoMemory>
-        ensures first { IfOk result (λ r. (r.1 ≡ posting r.0 (first ∷ [])) × (r.2 ≡ looking r.0 [])) }
+        ensures first { IfOk result (λ r. IsFirst r.0 first r.1 r.2) }
     {
         let (cell, mut pass) = RuledSeqCell::ruled(alloc, Posted(first))?;
         cell.swap_as::<Begin, R>(rt, &mut pass, Posted(first));
@@ -78,11 +92,13 @@ impl Board {
         }
     }
 
-    /// Posts a status, whose `seq` must be at least that of the last one. It takes no memory.
+    /// Posts a status, whose `seq` must be at least that of the last one; so none that was posted
+    /// is newer than one after it (`falls`). It takes no memory.
     pub fn post<R: Wait>(&self, rt: &R, poster: &mut Poster, status: Status)
         requires board { poster.old.board ≡ self.now }
         requires later { MayFollow poster.old.posted status }
         ensures posted { poster.new ≡ posting poster.old.board (status ∷ poster.old.posted) }
+        ensures falls { Falling poster.new.posted }
     {
         self.cell
             .swap_as::<Add, R>(rt, &mut poster.pass, Posted(status));
@@ -99,11 +115,12 @@ impl Board {
     }
 
     /// Ends a pass, and shows that each status which it has seen is the first or one that the
-    /// poster posted. It takes no memory.
+    /// poster posted, and so no newer than the last one posted (`latest`). It takes no memory.
     pub fn join<R: Wait>(&self, rt: &R, poster: &mut Poster, pass: BoardPass)
         requires board { (poster.old.board ≡ self.now) × (pass.board ≡ self.now) }
         ensures same { poster.new ≡ poster.old }
         ensures posted { (s : _) → Has pass.seen s → Has poster.new.posted s }
+        ensures latest { (s : _) → Has pass.seen s → UpToFirst poster.new.posted s }
     {
         let BoardPass { pass: mut other } = pass;
         let moved = self.cell.split_pass::<Copied>(&mut other);

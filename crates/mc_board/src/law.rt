@@ -31,15 +31,21 @@ impl Words<4> for Posted {
 
 /// What a pass of the cell is for. The first one is fresh until the first status is posted.
 pub enum Role {
+    /// The first one of a board, before it posts.
     Fresh,
+    /// The poster's.
     Posts,
+    /// One that looks.
     Looks,
 }
 
 /// What a pass knows, in proofs alone, the newest status first. No value of it is ever made.
 pub struct View {
+    /// What the pass is for.
     pub role: Role,
+    /// What it has posted; nothing but for the poster.
     pub posted: LinkedList<Status>,
+    /// What it has seen; of the poster what it has just taken in.
     pub seen: LinkedList<Status>,
 }
 

@@ -30,24 +30,24 @@ module _ {A : Type 0} where
   pub prefix_length : (xs ys : List A) → IsPrefix xs ys → length xs ≤ length ys
   prefix_length xs ys p = omega (arith, sym (ap length p.1) ∙ length-append xs p.0)
 
-module _ {E : Type 0} where
-  pub prefix_own : (n : ℕ) (xs ys : List (ℕ × E)) → IsPrefix xs ys → IsPrefix (of_caller n xs) (of_caller n ys)
-  prefix_own n xs ys p = (of_caller n p.0, sym (filter-append (λ (x : ℕ × E). eqb x.0 n) xs p.0) ∙ ap (of_caller n) p.1)
+module _ {E : Type 0} (by : E → ℕ) where
+  pub prefix_own : (n : ℕ) (xs ys : List E) → IsPrefix xs ys → IsPrefix (of_caller by n xs) (of_caller by n ys)
+  prefix_own n xs ys p = (of_caller by n p.0, sym (filter-append (λ (x : E). eqb (by x) n) xs p.0) ∙ ap (of_caller by n) p.1)
 
   -- what has not changed over the whole has not changed on the way
-  pub between : (n : ℕ) (xs ys zs : List (ℕ × E)) → IsPrefix xs ys → IsPrefix ys zs → of_caller n xs ≡ of_caller n zs → of_caller n ys ≡ of_caller n zs
-  between n xs ys zs p q e = prefix_whole (of_caller n ys) (of_caller n zs) (prefix_own n ys zs q)
-      (let le : length (of_caller n xs) ≤ length (of_caller n ys) = prefix_length (of_caller n xs) (of_caller n ys) (prefix_own n xs ys p) in omega (arith, ap length e))
+  pub between : (n : ℕ) (xs ys zs : List E) → IsPrefix xs ys → IsPrefix ys zs → of_caller by n xs ≡ of_caller by n zs → of_caller by n ys ≡ of_caller by n zs
+  between n xs ys zs p q e = prefix_whole (of_caller by n ys) (of_caller by n zs) (prefix_own n ys zs q)
+      (let le : length (of_caller by n xs) ≤ length (of_caller by n ys) = prefix_length (of_caller by n xs) (of_caller by n ys) (prefix_own n xs ys p) in omega (arith, ap length e))
 
-  pub none_of : (ns : List ℕ) (n : ℕ) (xs : List (ℕ × E)) → (Has ns n → ⊥) → Bear ns xs → of_caller n xs ≡ []
+  pub none_of : (ns : List ℕ) (n : ℕ) (xs : List E) → (Has ns n → ⊥) → Bear by ns xs → of_caller by n xs ≡ []
   none_of ns n [] not bear = refl
-  none_of ns n (x ∷ xs) not bear = skips (eqb x.0 n) refl (none_of ns n xs not bear.1)
+  none_of ns n (x ∷ xs) not bear = skips (eqb (by x) n) refl (none_of ns n xs not bear.1)
     where
-      skips : (b : Bool) → eqb x.0 n ≡ b → of_caller n xs ≡ [] → cond b (x ∷ of_caller n xs) (of_caller n xs) ≡ []
-      skips true e r = absurd (not (subst (Has ns) (eqb-true x.0 n e) bear.0))
+      skips : (b : Bool) → eqb (by x) n ≡ b → of_caller by n xs ≡ [] → cond b (x ∷ of_caller by n xs) (of_caller by n xs) ≡ []
+      skips true e r = absurd (not (subst (Has ns) (eqb-true (by x) n e) bear.0))
       skips false e r = r
 
   -- the entries that others added are none of this caller's
-  pub own_stays : (ns : List ℕ) (n : ℕ) (xs ys more : List (ℕ × E)) → xs ++ more ≡ ys → Bear ns more → (Has ns n → ⊥) → of_caller n xs ≡ of_caller n ys
-  own_stays ns n xs ys more e bear not = sym (append-nil (of_caller n xs)) ∙ (ap (λ (l : List (ℕ × E)). of_caller n xs ++ l) (sym (none_of ns n more not bear))
-      ∙ (sym (filter-append (λ (x : ℕ × E). eqb x.0 n) xs more) ∙ ap (of_caller n) e))
+  pub own_stays : (ns : List ℕ) (n : ℕ) (xs ys more : List E) → xs ++ more ≡ ys → Bear by ns more → (Has ns n → ⊥) → of_caller by n xs ≡ of_caller by n ys
+  own_stays ns n xs ys more e bear not = sym (append-nil (of_caller by n xs)) ∙ (ap (λ (l : List E). of_caller by n xs ++ l) (sym (none_of ns n more not bear))
+      ∙ (sym (filter-append (λ (x : E). eqb (by x) n) xs more) ∙ ap (of_caller by n) e))

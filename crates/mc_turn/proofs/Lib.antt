@@ -1,6 +1,6 @@
 pub mod Journals
 pub mod Numbers
-pub mod Calls
+pub mod Bounds
 pub mod Keeps
 pub mod Leaves
 pub mod Passes

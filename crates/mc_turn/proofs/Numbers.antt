@@ -1,9 +1,8 @@
 -- Rising lists of caller numbers: their parts, two in one, and the first numbers.
-use Rattle.std.proofs.Common.{◌≡◌, ◌≢◌, ℕ, zero, suc, ◌+◌, ◌<◌, ◌≤◌, ◌⊎◌, Bool, true, false, cond, leb, List, [], ◌∷◌, length, take, drop, refl, ap, inl, inr, ⊎_elim, zero-le, arith}
-use mathlib.Core.Logic.{dite}
-use native.Mathlib.Decide.{ℕ_discrete}
+use Rattle.std.proofs.Common.{◌≡◌, ◌≢◌, ℕ, zero, suc, ◌+◌, ◌-◌, ◌<◌, ◌≤◌, ◌⊎◌, Bool, true, false, cond, leb, List, [], ◌∷◌, length, take, drop, refl, ap, sym, subst, ◌∙◌, inl, inr, ⊎_elim, arith}
 use Rattle.std.proofs.lemmas.Bool.{leb-true, leb-false}
 use Rattle.mc_turn.specs.Callers.{Has, Rising, count_from, placed, merged}
+use Rattle.mc_turn.specs.Laws.{from_length}
 
 pub rising_length : (ns : List ℕ) (low high : ℕ) → low ≤ high → Rising ns → ((n : ℕ) → Has ns n → (low ≤ n) × (n < high)) → length ns + low ≤ high
 rising_length [] low high le r all = omega arith
@@ -27,6 +26,10 @@ pub has_part : (ns : List ℕ) (k n : ℕ) → Has ns n → Has (take k ns) n �
 has_part [] k n h = absurd h
 has_part (m ∷ ms) zero n h = inr h
 has_part (m ∷ ms) (suc k) n h = ⊎_elim (λ e. inl (inl e)) (λ t. ⊎_elim (λ u. inl (inr u)) (λ u. inr u) (has_part ms k n t)) h
+
+-- the same, as a pass and the one that it was split into know it
+pub has_parts : (ns ms front back : List ℕ) (k n : ℕ) → ms ≡ ns → front ≡ take k ms → back ≡ drop k ms → Has ns n → Has front n ⊎ Has back n
+has_parts ns ms front back k n same e f h = subst (λ (x : List ℕ × List ℕ). Has x.0 n ⊎ Has x.1 n) (λ i. (sym e i, sym f i)) (has_part ms k n (subst (λ (l : List ℕ). Has l n) (sym same) h))
 
 pub rising_take : (ns : List ℕ) (k : ℕ) → Rising ns → Rising (take k ns)
 rising_take [] zero r = tt
@@ -110,14 +113,33 @@ pub from_below : (n k m : ℕ) → Has (count_from n k) m → m < n + k
 from_below n zero m h = absurd h
 from_below n (suc k) m h = ⊎_elim (λ (e : n ≡ m). omega arith) (λ t. let lt : m < suc n + k = from_below (suc n) k m t in omega arith) h
 
--- and each number from n on and below n + k is one of them
-from_has : (n k m : ℕ) → n ≤ m → m < n + k → Has (count_from n k) m
-from_has n zero m le lt = absurd (omega arith)
-from_has n (suc k) m le lt = dite (ℕ_discrete n m) (λ e. inl e) (λ ne. inr (from_has (suc n) k m (omega arith) (omega arith)))
-
-pub first_has : (k m : ℕ) → m < k → Has (count_from 0 k) m
-first_has k m lt = from_has 0 k m zero-le (omega arith)
-
 pub rising_from : (n k : ℕ) → Rising (count_from n k)
 rising_from n zero = tt
 rising_from n (suc k) = ((λ m h. has_from (suc n) k m h), rising_from (suc n) k)
+
+take_from : (j k n : ℕ) → j ≤ k → take j (count_from n k) ≡ count_from n j
+take_from zero zero n le = refl
+take_from zero (suc k) n le = refl
+take_from (suc j) zero n le = absurd (omega arith)
+take_from (suc j) (suc k) n le = ap (λ l. n ∷ l) (take_from j k (suc n) (omega arith))
+
+drop_from : (j k n : ℕ) → j ≤ k → drop j (count_from n k) ≡ count_from (n + j) (k - j)
+drop_from zero zero n le = refl
+drop_from zero (suc k) n le = let e : n ≡ n + 0 = omega arith in let f : suc k ≡ suc k - 0 = omega arith in λ i. count_from (e i) (f i)
+drop_from (suc j) zero n le = absurd (omega arith)
+drop_from (suc j) (suc k) n le = let e : suc n + j ≡ n + suc j = omega arith in let f : k - j ≡ suc k - suc j = omega arith in drop_from j k (suc n) (omega arith) ∙ λ i. count_from (e i) (f i)
+
+-- the numbers from n on are cut into those from n on and those behind them
+pub cut_from : (ms ns front back : List ℕ) (number count first size : ℕ) → number ≡ length ms → count < length ns → ms ≡ ns → ns ≡ count_from first size → front ≡ take (number - count) ms → back ≡ drop (number - count) ms
+    → (front ≡ count_from first (size - count)) × (back ≡ count_from (first + (size - count)) count)
+cut_from ms ns front back number count first size counts fewer same is e f =
+    let long : length ns ≡ size = ap length is ∙ from_length first size in
+    let also : length ms ≡ length ns = ap length same in
+    let low : count < size = omega (arith, long, fewer) in
+    let k : number - count ≡ size - count = omega (arith, counts, also, long) in
+    let le : size - count ≤ size = omega arith in
+    let rest : size - (size - count) ≡ count = omega arith in
+    let all : ms ≡ count_from first size = same ∙ is in (
+      e ∙ ((λ i. take (k i) (all i)) ∙ take_from (size - count) size first le),
+      f ∙ ((λ i. drop (k i) (all i)) ∙ (drop_from (size - count) size first le ∙ ap (count_from (first + (size - count))) rest)),
+    )

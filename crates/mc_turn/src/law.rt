@@ -8,7 +8,9 @@ use std::snapshot::Snapshot;
 /// What a lock is made with: the value, and how many caller numbers its first pass has.
 #[derive(Drop)]
 pub struct Start<T> {
+    /// The value as it was then.
     pub value: Snapshot<T>,
+    /// How many caller numbers are handed out.
     pub numbers: u32,
 }
 
@@ -20,7 +22,7 @@ pub struct Law<T> {
 impl<T: Kept> TableRule<Option<T>, View<T::Entry>, Start<T>> for Law<T> {
     ghost use Rattle.mc_turn.specs.Rule.{Ruled, opened};
 
-    ghost holds = { λ _. Ruled T.kept };
+    ghost holds = { λ _. Ruled T.kept T.caller };
 
     ghost first = { λ key. opened (T.kept key.value.value) key.numbers };
 }
@@ -51,7 +53,7 @@ pub struct Take<T> {
 impl<T: Kept> Play<Option<T>, View<T::Entry>> for Take<T> {
     ghost use Rattle.mc_turn.specs.Rule.{Takes};
 
-    ghost then = { λ st m r n. Takes T.kept m r n };
+    ghost then = { λ st m r n. Takes T.kept T.caller m r n };
 }
 
 /// The next ticket is served, and the value is at home again.
@@ -66,12 +68,14 @@ impl<T: Kept> Play<Option<T>, View<T::Entry>> for Advance<T> {
 }
 
 /// A load that tells a joined pass how its parts and the journal go together.
-pub struct Learn;
+pub struct Learn<T> {
+    of: PhantomData<T>,
+}
 
-impl<S, E> Play<S, View<E>> for Learn {
+impl<T: Kept> Play<Option<T>, View<T::Entry>> for Learn<T> {
     ghost use Rattle.mc_turn.specs.Rule.{Learns};
 
-    ghost then = { λ st m r n. Learns m n };
+    ghost then = { λ st m r n. Learns T.caller m n };
 }
 
 /// Two passes are made one.

@@ -1,6 +1,6 @@
 ghost use Rattle.std.specs.Prelude.{◌≡◌, length};
-ghost use Rattle.mc_turn.specs.Passes.{Known, known};
-ghost use Rattle.mc_turn.specs.Rule.{is_inside, Rests};
+ghost use Rattle.mc_turn.specs.Passes.{Known};
+ghost use Rattle.mc_turn.specs.Rule.{Stands, known_of};
 
 use crate::kept::Kept;
 use crate::view::View;
@@ -15,17 +15,20 @@ use std::marker::Model;
 /// and whether it is inside.
 #[derive(Drop)]
 pub struct Pass<T: Kept> {
+    // its place in the lock's table, with what it knows: written by each call on the lock
     pub(crate) seat: Seat<Option<T>, View<T::Entry>>,
+    // how many caller numbers it has: written by `split` and `join`
     pub(crate) count: u32,
+    // the ticket that it drew last: written by `enter`, and read by the `leave` of that turn
     pub(crate) ticket: u64,
 }
 
 impl<T: Kept> Model for Pass<T> {
     ghost Value = { Known T.Entry };
 
-    ghost view = { λ p. known p.seat.table_id p.seat.me.0.numbers p.seat.me.0.seen (is_inside p.seat.me.0.stage) };
+    ghost view = { λ p. known_of p.seat.table_id p.seat.me.0 };
 
-    ghost invariant = { λ p. (p.count ≡ length p.seat.me.0.numbers) × Rests p.ticket p.seat.me.1 p.seat.me.0.stage };
+    ghost invariant = { λ p. Stands p.count p.ticket p.seat.me };
 }
 
 impl<T: Kept> Pass<T> {

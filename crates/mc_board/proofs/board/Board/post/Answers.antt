@@ -4,4 +4,4 @@ use Rattle.mc_board.proofs.Keeps.{adds}
 use Rattle.mc_board.proofs.board.Board.post.Goals as goal
 
 pub swap_as-requires : goal.swap_as-requires
-swap_as-requires g c = (search rules, (search rules, (search rules, adds _ _ _ (ap (λ v. v.role) c.poster.invariant) (subst (λ (d : Posting). MayFollow d.posted c.args.status) (sym c.poster.view_is) c.requires.later))))
+swap_as-requires g c = (search rules, (search rules, (search rules, adds _ _ _ (ap (λ v. v.role) c.poster.invariant.0) (subst (λ (d : Posting). MayFollow d.posted c.args.status) (sym c.poster.view_is) c.requires.later))))

@@ -105,10 +105,10 @@ WORD = re.compile(r"\.?[^\s()\[\]{},;λ\"]+")
 
 
 class Definition:
-    """One definition of a file of specs/: its name, the comment above it, and its text."""
+    """One definition of a file of specs/: its name, the comment above it, its text, and the section in which it stands."""
 
-    def __init__(self, module, name, comment, text):
-        self.module, self.name, self.comment, self.text = module, name, comment, text
+    def __init__(self, module, name, comment, text, section):
+        self.module, self.name, self.comment, self.text, self.section = module, name, comment, text, section
 
     def words(self):
         """Returns the words that its text may cite, in order, without the names that it binds itself."""
@@ -159,8 +159,10 @@ def sentence(comment):
 
 
 def definitions_of(module, lines):
-    found, at = [], 0
+    found, at, section = [], 0, ""
     while at < len(lines):
+        if lines[at].startswith("-- ----"):
+            section = lines[at][7:].strip()
         if not IS_HEAD.match(lines[at]) or NO_DEFINITION.match(lines[at]):
             at += 1
             continue
@@ -174,7 +176,7 @@ def definitions_of(module, lines):
             last += 1
         text = "\n".join(lines[begin:last]).rstrip()
         name = HEAD.match(lines[at])[1]
-        found.append(Definition(module, name, sentence(lines[above + 1 : begin]), text))
+        found.append(Definition(module, name, sentence(lines[above + 1 : begin]), text, section))
         at = last
     return found
 
@@ -353,10 +355,14 @@ def link(file):
     return f"../{file.relative_to(TOP)}"
 
 
+def as_sentence(text):
+    return text[0].upper() + text[1:] + ("" if text[-1] in ".?!:" else ".") if text else ""
+
+
 def entry(it):
     lines = [f"#### `{it.name}`", ""]
     if it.comment:
-        lines += [it.comment[0].upper() + it.comment[1:] + ("" if it.comment[-1] in ".?!:" else "."), ""]
+        lines += [as_sentence(it.comment), ""]
     return [*lines, "```", it.text, "```", ""]
 
 
@@ -395,7 +401,8 @@ def page_of(sources):
         f" {len(promised)} in all, and {len(more)} more that describe the outside and the statuses. They are all that"
         " has to be read and believed; everything else is proved against them. Read from the top: the clauses first,"
         " then what a question of yours needs, or the first topic, and go down only where a name matters to you."
-        " Each definition stands with its sentence above its text. Where the two differ the text counts."
+        " Each definition stands with its sentence above its text; one without a sentence serves the next one that has"
+        " one. Where sentence and text differ the text counts."
         " The marks are explained in [CONTRACTS.md](CONTRACTS.md). Words that have no entry here are the standard library's,"
         " such as `All` or `filter`, or types of the program, which the last table lists.",
         "",
@@ -425,7 +432,11 @@ def page_of(sources):
         for module in group:
             out += [f"### [{module.name}]({link(module.file)})", ""]
             out += [module.about, ""] if module.about else []
+            section = ""
             for it in kept[module]:
+                if it.section != section:
+                    section = it.section
+                    out += [f"*{as_sentence(section)}*", ""]
                 out += entry(it)
     out += [
         "## Types of the program",

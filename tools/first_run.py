@@ -167,8 +167,8 @@ def no_answer(lines):
 
 def main(words):
     # Whoever stops the launcher by another signal stops what it began in the same way.
-    signal.signal(signal.SIGTERM, signal.default_int_handler)
-    signal.signal(signal.SIGINT, signal.default_int_handler)
+    for number in (signal.SIGINT, signal.SIGTERM, signal.SIGHUP):
+        signal.signal(number, signal.default_int_handler)
     try:
         if words == ["build"]:
             return build()

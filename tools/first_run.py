@@ -132,7 +132,8 @@ def absolute(words):
 
 
 def quick(words):
-    say("NOT PROVED: the same program, compiled with checks for this run alone; that takes a minute or two")
+    what = "the same program, compiled for this run alone in a minute or two"
+    say(f"NOT PROVED: {what}; it prints at most 1 MiB, some 15,000 packets")
     trial = ["rt", "try", "--seconds", str(SECONDS), "--", *absolute(words)]
     pipes = {"stdin": subprocess.DEVNULL, "stdout": subprocess.PIPE, "stderr": subprocess.PIPE}
     with subprocess.Popen(trial, cwd=CRATE, **pipes) as child:

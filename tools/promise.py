@@ -83,18 +83,42 @@ TOPICS = [
     ("More", "Definitions of other modules.", ""),
 ]
 
-# Questions that a reader may have, and the definitions to read for each, in this order. A name that is gone is
-# left out, with a warning.
+# Questions that a reader may have, each with its answer in short and the definitions to read for it, in this
+# order; a name that is defined twice stands behind its module's. One that is gone is left out, with a warning.
 PATHS = [
-    ("How does a run end, and with which status?", "Ends EndsLine Stopped Stepped status_of exit_text"),
-    ("What is in the text?", "Written transcript line"),
+    (
+        "How does a run end, and with which status?",
+        "`Done` only where every line was played and no read failed; each other exit with its cause.",
+        "Run.Ends EndsLine Stopped Stepped status_of exit_text",
+    ),
+    (
+        "What is in the text?",
+        "A line for each record of the journal that has one, in order.",
+        "Written transcript line",
+    ),
     (
         "When is a seek served from the cache, and what is given then?",
-        "Plays IsUsed IsNext May MaySeek is_served serves served_head MayGive IsLegal GaveFronts reading read_from start_of",
+        "It is `Cached` exactly where a range that the journal leaves serves it. What each selected track's reader is"
+        " given from then on is, on a film whose keyframes have rising times, a front of a fresh reading of the film"
+        " from the place that the seek means; on any film packets of its track with none left out.",
+        "Plays IsUsed Used.IsNext Allowed.May Allowed.MaySeek is_served serves served_head read_from MayGive IsRegular IsLegal GaveFronts"
+        " reading IsGapless start_of",
     ),
-    ("What may a line of a script leave?", "Runs Played Leaves Own Begins"),
-    ("What is a film, and how does it end?", "opened_film film_walk step_at move_of block_element_of film_told film_for"),
-    ("Is anything left out?", "Completes HasAll IsQuiet Fulfils PlayedOut EndsAll IsGapless"),
+    (
+        "What may a line of a script leave?",
+        "Records of its own, by a table of what may stand behind what it left so far, and where it may end.",
+        "Runs Played Leaves Own Begins",
+    ),
+    (
+        "What is a film, and how does it end?",
+        "Packets in the order of their places, found by a walk from element to element; a clean, cut or damaged end.",
+        "opened_film film_walk step_at move_of block_element_of film_told film_for",
+    ),
+    (
+        "Is anything left out?",
+        "Where all is there and nothing fails, every line was played, and each drain went to the end of each track.",
+        "Completes HasAll IsQuiet Fulfils PlayedOut EndsAll",
+    ),
 ]
 
 HEAD = re.compile(r"(?:(?:abbrev|unfoldable|opaque)\s+)*(?:pub\s+)?(?:(?:record|data)\s+)?(\S+)")
@@ -105,7 +129,7 @@ WORD = re.compile(r"\.?[^\s()\[\]{},;λ\"]+")
 
 
 class Definition:
-    """One definition of a file of specs/: its name, the comment above it, its text, and the section in which it stands."""
+    """One definition of a file of specs/: its name, the comment above it, its text, and the section around it."""
 
     def __init__(self, module, name, comment, text, section):
         self.module, self.name, self.comment, self.text, self.section = module, name, comment, text, section
@@ -326,28 +350,33 @@ def topic_of(module):
 
 
 def slugs_of(lines):
-    """Returns the anchor that each heading of a page has, by its text and in order."""
-    seen, found, in_code = Counter(), {}, False
+    """Returns the anchor that each definition of a page has, the first of its name and the one of each module."""
+    seen, found, in_code, module = Counter(), {}, False, ""
     for line in lines:
         in_code ^= line.startswith("```")
         if in_code or not line.startswith("#"):
             continue
         text = re.sub(r"\]\([^)]*\)", "", line.lstrip("# ")).replace("[", "").replace("`", "")
         slug = re.sub(r"[^\w -]", "", text.lower()).replace(" ", "-")
-        found.setdefault(text, []).append(f"{slug}-{seen[slug]}" if seen[slug] else slug)
+        anchor = f"{slug}-{seen[slug]}" if seen[slug] else slug
         seen[slug] += 1
+        if line.startswith("### "):
+            module = text.split("/")[-1]
+        elif line.startswith("#### "):
+            found.setdefault(text, anchor)
+            found[f"{module}.{text}"] = anchor
     return found
 
 
 def paths_of(lines):
     """Returns the table of questions, with a link to each definition that is to be read."""
     slugs = slugs_of(lines)
-    rows = ["## Where to begin", "", "| Question | Read, in this order |", "|---|---|"]
-    for question, names in PATHS:
+    rows = ["## Where to begin", "", "| Question | In short | Read, in this order |", "|---|---|---|"]
+    for question, answer, names in PATHS:
         for gone in [it for it in names.split() if it not in slugs]:
             print(f"promise: '{gone}' of the question '{question}' is no definition any more", file=sys.stderr)
-        links = [f"[`{it}`](#{slugs[it][0]})" for it in names.split() if it in slugs]
-        rows.append(f"| {question} | {', '.join(links)} |")
+        links = [f"[`{it.split('.')[-1]}`](#{slugs[it]})" for it in names.split() if it in slugs]
+        rows.append(f"| {question} | {answer} | {', '.join(links)} |")
     return [*rows, ""]
 
 
@@ -403,8 +432,8 @@ def page_of(sources):
         " then what a question of yours needs, or the first topic, and go down only where a name matters to you."
         " Each definition stands with its sentence above its text; one without a sentence serves the next one that has"
         " one. Where sentence and text differ the text counts."
-        " The marks are explained in [CONTRACTS.md](CONTRACTS.md). Words that have no entry here are the standard library's,"
-        " such as `All` or `filter`, or types of the program, which the last table lists.",
+        " The marks are explained in [CONTRACTS.md](CONTRACTS.md). Words that have no entry here are the standard"
+        " library's, such as `All` or `filter`, or types of the program, which the last table lists.",
         "",
         "## The contract",
         "",

@@ -113,6 +113,17 @@ check "it is told which" says "^mcplay: mc_script could not be built$"
 check "with the toolchain's words" says "^fn sum: not proved$"
 check "and nothing is left of it" is_gone "$built"
 
+fresh
+mkdir "$room/none"
+ln -s "$(python3 -c 'import sys; print(sys.executable)')" "$room/none/python3"
+for way in "" --quick; do
+    # shellcheck disable=SC2086
+    (cd "$room/copy" && PATH=$room/none ./mcplay $way run film.mkv) >"$room/out" 2>"$room/error"
+    status=$?
+    check "without the toolchain $way nothing can be done" ended 70
+    check "and what is missing is told" says "^mcplay: there is no rt: install the Rattle toolchain"
+done
+
 for way in "" --quick; do
     fresh
     # shellcheck disable=SC2086

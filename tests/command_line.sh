@@ -70,20 +70,52 @@ $last" run "$film" "$scripts/ahead"
 prints "$("$program" run "$film")
 seek 90000000 cached
 $last" run "$film" "$scripts/again"
+# The tour of README.md and the first scripts of docs/SCRIPTS.md, whose texts follow from the film: four
+# packets, 40 ms apart, of which the first and the third are keyframes.
+printf 'demux 4\nread video 2\nseek 0.01\nread video\nseek 0.1\ndrain\nswitch\n' >"$scripts/tour"
+printf 'seek 0.09\ndrain\n' >"$scripts/from"
+printf 'seek 0.09\ndemux 10\nread video 2\n' >"$scripts/by-hand"
+printf 'seek 0.09\nread video\n' >"$scripts/at-once"
+printf 'drain\nshow\nseek 0.13 forward\ndrain\n' >"$scripts/look"
+second="give 1 at 73.0 time 40000000 len 1 sum 17 inter"
+prints "$first
+$second
+seek 10000000 cached
+$first
+seek 100000000 sent
+join
+$last
+switch none at 120000000
+drop 1 from 0.0 to 94.0 track" run "$film" "$scripts/tour"
+prints "seek 90000000 sent
+$last" run "$film" "$scripts/from"
+prints "seek 90000000 sent
+${last%$'\n'*}" run "$film" "$scripts/by-hand"
+prints "seek 90000000 sent" run "$film" "$scripts/at-once"
+prints "$first
+$second
+$last
+view ranges 1 forward 0 back 260 ending yes
+range 0 120000000 1 0.0 94.0
+seek 130000000 forward cached
+$last" run "$film" "$scripts/look"
 expect 3 "" "mcplay: cannot read" run "$film" "$scripts/none"
 expect 5 "" "mcplay: file refused: NotEbml" run README.md "$scripts/ahead"
 expect 6 "" "mcplay: script line 2: Word" run "$film" "$scripts/word"
 expect 6 "" "mcplay: script line 2: Number" run --back=0 "$film" "$scripts/number"
 expect 6 "" "mcplay: script line 0: Utf8" run "$film" "$film"
 expect 6 "" "mcplay: script line 2: Word" run README.md "$scripts/word"
-# The launcher hands its words on, wherever it is called from.
+# The launcher hands its words on, wherever it is called from, also behind --quick.
 top=$PWD
-if [ "$(cd / && "$top/mcplay" run "$top/$film" 2>&1)" = "$("$program" run "$film")" ]; then
-    passed=$((passed + 1))
-else
-    echo "command line: the launcher does not print what the program prints"
-    failed=$((failed + 1))
-fi
+for quick in "" --quick; do
+    # shellcheck disable=SC2086
+    if [ "$(cd / && "$top/mcplay" $quick run "$top/$film" 2>&1)" = "$("$program" run "$film")" ]; then
+        passed=$((passed + 1))
+    else
+        echo "command line: the launcher $quick does not print what the program prints"
+        failed=$((failed + 1))
+    fi
+done
 if [ -w /dev/full ]; then
     if "$program" run "$film" 2>/dev/null >/dev/full; [ $? = 4 ]; then
         passed=$((passed + 1))
@@ -93,4 +125,4 @@ if [ -w /dev/full ]; then
     fi
 fi
 echo "command line: $passed passed, $failed failed"
-[ "$failed" -eq 0 ]
+[ "$failed" -eq 0 ] && bash tests/launcher.sh

@@ -12,27 +12,36 @@ use std::{env, io};
 const HELP: &str = "\
 mcplay plays a script over a Matroska film and prints its packets.
 
+  mcplay run film.mkv                  every packet of the default tracks, then how each track ended
+  mcplay run film.mkv seek.script      what a script asks for; with `seek 60` and `drain` in it, all
+                                       packets from the keyframe at or before one minute on
+
 usage: mcplay run [--forward=N] [--back=N] [--readahead=N] FILE [SCRIPT]
        mcplay --help | --version
 
 `run` opens FILE with its default video and audio track, and carries out the lines of the file
-SCRIPT; without SCRIPT it reads both tracks to their ends, as the script `drain` does.
+SCRIPT; without SCRIPT it reads both tracks to their ends, as the script `drain` does. Nothing is
+printed before the last line was carried out: a long run is silent until then. FILE and SCRIPT are
+files that can be read at any place, so neither is standard input; one named -x is written ./-x.
 
-options, each at most once and before FILE; N is a decimal number:
-  --forward=N    read so many octets ahead, 1 to 1073741824; else 157286400
-  --back=N       keep so many octets that were read, 0 to 1073741824; else 52428800
-  --readahead=N  read so many milliseconds ahead, 0 to 3600000; else 1000
+options, each at most once and before FILE; N is a decimal number without a suffix:
+  --forward=N    octets cached ahead of the readers, 1 to 1073741824; else 157286400, 150 MiB
+                 (mpv: --demuxer-max-bytes)
+  --back=N       octets kept behind the readers, 0 to 1073741824; else 52428800, 50 MiB
+                 (mpv: --demuxer-max-back-bytes)
+  --readahead=N  milliseconds cached ahead of the reader of each track, unless --forward ends that
+                 before, 0 to 3600000; else 1000, 1 second (mpv: --demuxer-readahead-secs)
 
 lines of a script; one that is empty or begins with # is skipped:
-  seek SECONDS               to the last keyframe at or before that time
+  seek SECONDS               to the last keyframe at or before that time of the film
   seek SECONDS forward       to the first keyframe at or after it
-  switch [NUMBER...]         select just these tracks; with no number, none
+  switch [NUMBER...]         select just these TrackNumbers; with no number, none
   switch [NUMBER...] at SECONDS    select them from that time on
   show                       look at the cache
-  demux [COUNT]              do so many jobs of the demuxer
-  demux take, demux give     take a job; bring its outcome
-  read video|audio|sub [COUNT]     read so many packets of that kind's track
+  read video|audio|sub [COUNT]     read so many packets of that kind's track, as far as cached
+  demux [COUNT]              do so many jobs of the demuxer: find a place, or read one block
   drain                      read all selected tracks to their ends
+  demux take, demux give     take a job; bring its outcome
 
 what happens is printed, one line each; times are in nanoseconds, places are OFFSET.FRAME:
   give TRACK at PLACE time TIME len OCTETS sum CHECKSUM sync|key|inter: a packet
@@ -49,8 +58,27 @@ what happens is printed, one line each; times are in nanoseconds, places are OFF
     of its ranges: range FROM TO, then TRACK PLACE PLACE for each track
   refused CAUSE: a seek without a track, or a switch to tracks that cannot be selected
 
-status: 0 done, 1 out of memory, 2 usage, 3 cannot read, 4 cannot write, 5 film refused,
-  6 script refused, 7 journal full
+status, with a line on standard error unless it is 0:
+  0  done
+  1  out of memory
+  2  the words are not those of the usage line
+  3  cannot read: FILE or SCRIPT is not there or cannot be opened, or a read of it failed
+  4  cannot write: standard output took no more
+  5  file refused, for what stands before the film's Clusters:
+       NotEbml     it does not begin with a whole EBML header
+       Version     it asks for a later version of EBML or of Matroska
+       DocType     it is neither matroska nor webm
+       NoSegment, NoInfo, NoTracks    that element was not found
+       Broken N    the element at octet N is bad or runs past its parent
+       ScaleZero   its TimestampScale is 0
+       NoNumber, TwiceNumber    a track has no number, or two have the same
+       TooMany     it has more than 64 tracks
+  6  script refused, at the line with that number; nothing is played:
+       Size        the script has more than 16777216 octets (line 0)
+       Utf8        it is no UTF-8 (line 0)
+       Word        the words are none of the lines above, or may not stand there
+       Number      a time, a count or a track's number is wrong
+  7  the journal has 16000000 records, so that the run ended there
 ";
 
 // The words behind the program's name; `Usage` where one of them is no text.

@@ -1,3 +1,4 @@
 pub mod Fitting
 pub mod Masks
 pub mod Slashes
+pub mod Known

@@ -13,7 +13,8 @@ abbrev pub time_value : ℤ → Value
 time_value t = value.Str (seconds_text_of t)
 
 abbrev pub range_map : ℤ → ℤ → Value
-range_map start end = value.Map ((codes "start", time_value start) ∷ (codes "end", time_value end) ∷ [])
+range_map start end =
+    value.Map ((codes "start", time_value start) ∷ (codes "end", time_value end) ∷ [])
 
 -- a range's map, where it has bounds
 abbrev pub bounds_maps : Option (ℤ × ℤ) → List Value
@@ -26,11 +27,14 @@ range_maps ranges = flat_map (λ (r : RangeView). bounds_maps r.bounds) ranges
 
 -- whether the current range begins where the film does, and reaches its ending
 abbrev pub ends_of : CacheView → List (List ℕ × Value)
-ends_of view = (codes "bof-cached", value.Flag view.bof) ∷ (codes "eof-cached", value.Flag (is_some view.ending)) ∷ []
+ends_of view = (codes "bof-cached", value.Flag view.bof)
+    ∷ (codes "eof-cached", value.Flag (is_some view.ending)) ∷ []
 
 -- the octets ahead of the readers in the current range, and all
 abbrev pub octets_of : CacheView → List (List ℕ × Value)
-octets_of view = (codes "fw-bytes", number_value view.forward) ∷ (codes "total-bytes", number_value (view.forward + view.back)) ∷ []
+octets_of view = (codes "fw-bytes", number_value view.forward)
+    ∷ (codes "total-bytes", number_value (view.forward + view.back)) ∷ []
 
 abbrev pub cache_map : CacheView → Value
-cache_map view = value.Map ((codes "seekable-ranges", value.Array (range_maps view.ranges)) ∷ (ends_of view ++ octets_of view))
+cache_map view = value.Map ((codes "seekable-ranges", value.Array (range_maps view.ranges))
+    ∷ (ends_of view ++ octets_of view))

@@ -24,11 +24,14 @@ place_of name entries = position (has_name name) entries
 
 -- the names that may be set
 abbrev pub is_setting : List ℕ → Bool
-is_setting name = bytes_eq name (codes "pause") || (bytes_eq name (codes "mute") || (bytes_eq name (codes "vid") || (bytes_eq name (codes "aid") || bytes_eq name (codes "sid"))))
+is_setting name = bytes_eq name (codes "pause") || (bytes_eq name (codes "mute")
+    || (bytes_eq name (codes "vid")
+    || (bytes_eq name (codes "aid") || bytes_eq name (codes "sid"))))
 
 -- of two facts that agree on an entry's mask the stated function answers the same there
 abbrev pub Masked : (ℕ → Facts → Reading) → List PropEntry → Type 0
-Masked value entries = (k : ℕ) (e : PropEntry) → slice_get entries k ≡ Some e → (f g : Facts) → Agree e.mask f g → value k f ≡ value k g
+Masked value entries = (k : ℕ) (e : PropEntry) → slice_get entries k ≡ Some e
+    → (f g : Facts) → Agree e.mask f g → value k f ≡ value k g
 
 -- whether no two of these texts are the same
 abbrev pub all_differ : List (List ℕ) → Bool

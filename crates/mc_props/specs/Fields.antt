@@ -2,7 +2,8 @@
 use Rattle.std.specs.Prelude.{◌≡◌, ℕ, ◌/◌, ◌%◌, Bool, true, not, ◌==◌, ◌&&◌, ◌||◌}
 use Rattle.mc_props.specs.declared.facts.Facts.{Facts}
 
--- whether a mask has the field of a bit: 1 pause, 2 mute, 4 the file, 8 the selection, 16 the cache's view
+-- whether a mask has the field of a bit: 1 pause, 2 mute, 4 the file, 8 the selection, 16 the
+-- cache's view
 abbrev pub has_field : ℕ → ℕ → Bool
 has_field mask bit = mask / bit % 2 == 1
 
@@ -29,4 +30,5 @@ both_have a b bit = has_field a bit && has_field b bit
 
 -- whether two masks have a field in common
 abbrev pub share_field : ℕ → ℕ → Bool
-share_field a b = both_have a b 1 || (both_have a b 2 || (both_have a b 4 || (both_have a b 8 || both_have a b 16)))
+share_field a b = both_have a b 1 || (both_have a b 2
+    || (both_have a b 4 || (both_have a b 8 || both_have a b 16)))

@@ -1,6 +1,7 @@
 pub mod Cache
 pub mod Entries
 pub mod Fields
+pub mod First
 pub mod Readings
 pub mod Refusals
 pub mod Settings

@@ -35,22 +35,44 @@ given_in to (Some v) = ok_or (converted v to) refusal.PropertyFormat
 abbrev pub read_at : (ℕ → Facts → Reading) → ℕ → List ℕ → Facts → Option Value
 read_at stated place name facts = cut (path_part name) (stated place facts)
 
-abbrev pub got_at : (ℕ → Facts → Reading) → Option ℕ → List ℕ → Facts → Format → Result Value PropError
+abbrev pub got_at : (ℕ → Facts → Reading) → Option ℕ → List ℕ → Facts → Format
+    → Result Value PropError
 got_at stated None name facts to = Err refusal.NotFound
 got_at stated (Some place) name facts to = given_in to (read_at stated place name facts)
 
 -- the answer to a name in a format
-abbrev pub got : (ℕ → Facts → Reading) → List PropEntry → List ℕ → Facts → Format → Result Value PropError
-got stated entries name facts to = got_at stated (place_of (property_part name) entries) name facts to
+abbrev pub got : (ℕ → Facts → Reading) → List PropEntry → List ℕ → Facts → Format
+    → Result Value PropError
+got stated entries name facts to =
+    got_at stated (place_of (property_part name) entries) name facts to
 
--- the format and the value that an observer is given: none of both where there is no answer in its format
+-- the format and the value that an observer is given: none of both where there is no answer in its
+-- format
 abbrev pub shown : Format → Result Value PropError → Format × Value
 shown to (Ok v) = (to, v)
 shown to (Err e) = (format.None, value.None)
 
--- what an observer of a name has at these facts; its entry is the place at which the name's property stands, if any
+-- what an observer of a name has at these facts; its entry is the place at which the name's
+-- property stands, if any
 abbrev pub present_of : (ℕ → Facts → Reading) → Option ℕ → List ℕ → Format → Facts → Format × Value
 present_of stated entry name to facts = shown to (got_at stated entry name facts to)
+
+-- what an observer of a name has at these facts, by the name alone
+abbrev pub presented : (ℕ → Facts → Reading) → List PropEntry → List ℕ → Facts → Format
+    → Format × Value
+presented stated entries name facts to = shown to (got stated entries name facts to)
+
+-- it is what an observer has whose entry is where the table has the name's property
+abbrev pub IsPresented : (ℕ → Facts → Reading) → List PropEntry → Option ℕ → List ℕ → Format → Facts
+    → Type 0
+IsPresented stated entries entry name to facts = entry ≡ place_of (property_part name) entries
+    → present_of stated entry name to facts ≡ presented stated entries name facts to
+
+-- it is the same at both facts
+abbrev pub PresentsSame : (ℕ → Facts → Reading) → Option ℕ → List ℕ → Format → Facts → Facts
+    → Type 0
+PresentsSame stated entry name to f g =
+    present_of stated entry name to f ≡ present_of stated entry name to g
 
 -- the mask of an entry; an unknown name has no field
 abbrev pub mask_of : Option PropEntry → ℕ

@@ -17,8 +17,10 @@ use Rattle.mc_props.specs.declared.properties.Property.TheVariants as property
 
 abbrev pub properties : List Property
 properties =
-    property.Pause ∷ property.Mute ∷ property.Path ∷ property.Filename ∷ property.FileFormat ∷ property.IdleActive ∷ property.Seekable ∷
-    property.TrackList ∷ property.Track Video ∷ property.Track Audio ∷ property.Track Sub ∷ property.TimePos ∷ property.DemuxerCacheState ∷ property.EofReached ∷ []
+    property.Pause ∷ property.Mute ∷ property.Path ∷ property.Filename ∷ property.FileFormat ∷
+    property.IdleActive ∷ property.Seekable ∷ property.TrackList ∷ property.Track Video ∷
+    property.Track Audio ∷ property.Track Sub ∷ property.TimePos ∷ property.DemuxerCacheState ∷
+    property.EofReached ∷ []
 
 abbrev pub track_property : Kind → List ℕ
 track_property Video = codes "vid"
@@ -39,7 +41,8 @@ property_name property.TimePos = codes "time-pos"
 property_name property.DemuxerCacheState = codes "demuxer-cache-state"
 property_name property.EofReached = codes "eof-reached"
 
--- the fields that a property reads: 1 pause, 2 mute, 4 the file, 8 the selection, 16 the cache's view
+-- the fields that a property reads: 1 pause, 2 mute, 4 the file, 8 the selection, 16 the cache's
+-- view
 abbrev pub property_mask : Property → ℕ
 property_mask property.Pause = 1
 property_mask property.Mute = 2

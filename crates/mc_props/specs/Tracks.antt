@@ -15,7 +15,8 @@ number_value n = value.Int (pos (min n (2 ^ 63 - 1)))
 
 -- the track's number among those of its kind, which are counted from 1
 abbrev pub id_of : List Track → Kind → ℕ → Option ℕ
-id_of tracks kind number = option_map (λ k. suc k) (position (λ (t : Track). t.no == number) (all_of_kind kind tracks))
+id_of tracks kind number = option_map (λ k. suc k)
+    (position (λ (t : Track). t.no == number) (all_of_kind kind tracks))
 
 -- the selected track of a kind
 abbrev pub chosen : Kind → Choice → Option ℕ
@@ -39,13 +40,16 @@ if_filled name (c ∷ cs) = (name, value.Str (c ∷ cs)) ∷ []
 
 -- a track's map: what tells it from the others, its texts, and how it stands
 abbrev pub numbers_of : List Track → Track → List (List ℕ × Value)
-numbers_of tracks t = (codes "id", number_value (unwrap_or (id_of tracks t.kind t.no) 0)) ∷ (codes "type", value.Str (kind_name t.kind)) ∷ (codes "src-id", number_value t.no) ∷ []
+numbers_of tracks t = (codes "id", number_value (unwrap_or (id_of tracks t.kind t.no) 0))
+    ∷ (codes "type", value.Str (kind_name t.kind)) ∷ (codes "src-id", number_value t.no) ∷ []
 
 abbrev pub texts_of : Track → List (List ℕ × Value)
-texts_of t = if_filled (codes "title") t.name ++ (if_filled (codes "lang") t.language ++ (codes "codec", value.Str t.codec) ∷ [])
+texts_of t = if_filled (codes "title") t.name
+    ++ (if_filled (codes "lang") t.language ++ (codes "codec", value.Str t.codec) ∷ [])
 
 abbrev pub flags_of : Choice → Track → List (List ℕ × Value)
-flags_of set t = (codes "default", value.Flag t.default) ∷ (codes "selected", value.Flag (is_it (chosen t.kind set) t.no)) ∷ []
+flags_of set t = (codes "default", value.Flag t.default)
+    ∷ (codes "selected", value.Flag (is_it (chosen t.kind set) t.no)) ∷ []
 
 abbrev pub track_map : List Track → Choice → Track → Value
 track_map tracks set t = value.Map (numbers_of tracks t ++ (texts_of t ++ flags_of set t))

@@ -1,9 +1,9 @@
 //! The properties of a player: what a front end reads, sets and observes under names like `pause`,
-//! `track-list` and `demuxer-cache-state`. A table takes entries and one reader of their places, and
-//! its type keeps that the reader answers a stated function, the same wherever the fields of the
-//! entry's mask are the same. It gives each property's value in a format, what setting it writes,
-//! and what an observer has, as `specs/` says; `standard` reads the properties of mpv's that a
-//! player of films has.
+//! `track-list` and `demuxer-cache-state`. A table takes entries and one reader of their places,
+//! and its type keeps that the reader answers a stated function, the same wherever the fields of
+//! the entry's mask are the same. It gives each property's value in a format, what setting it
+//! writes, and what an observer has, as `specs/` says; `standard` reads the properties of mpv's
+//! that a player of films has.
 #![tactic(auto)]
 
 mod cache_value;
@@ -32,6 +32,3 @@ pub use refusal::PropError;
 pub use settings::Write;
 pub use table::PropTable;
 pub use values::standard;
-
-#[cfg(test)]
-mod tests;

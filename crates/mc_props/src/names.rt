@@ -24,7 +24,10 @@ pub(crate) fn path_part(name: &str) -> &str
 
 /// The part of a text behind its first slash, where it has one.
 pub(crate) fn behind_slash(text: &str) -> Option<&str>
-    ensures cases { MatchOption result (position_or_len (λ c. c == 47) text.now ≡ length text.now) (λ rest. (rest.now ≡ path_part text.now) × (position_or_len (λ c. c == 47) text.now < length text.now)) }
+    ensures cases { MatchOption result
+        (position_or_len (λ c. c == 47) text.now ≡ length text.now)
+        (λ rest. (rest.now ≡ path_part text.now)
+        × (position_or_len (λ c. c == 47) text.now < length text.now)) }
     ensures shorter { IfSome result (λ rest. length rest.now < length text.now) }
 {
     match text.split_once('/') {

@@ -27,7 +27,8 @@ impl<M: Meaning, F: Fn(u32, &Facts) -> Result<Reading, NoMemory> + Drop> Reads<M
     ghost use Rattle.mc_props.specs.declared.reading.Reading.{Reading};
 
     ghost answers = { λ f place. (p : Bor Facts) → F.pre f place p
-        × ((r : Result Reading AllocError) → F.post f place p r → IfOk r (λ x. x ≡ M.value place p.now)) };
+        × ((r : Result Reading AllocError) → F.post f place p r
+        → IfOk r (λ x. x ≡ M.value place p.now)) };
 
     fn read(&self, place: u32, facts: &Facts) -> Result<Reading, NoMemory> {
         self(place, facts)

@@ -1,3 +1,6 @@
+ghost use Rattle.std.specs.Prelude.{◌≡◌};
+ghost use Rattle.mc_props.specs.Refusals.{error_number};
+
 use mc_value::ValueError;
 use std::alloc::AllocError;
 
@@ -18,6 +21,24 @@ pub enum PropError {
     Unsupported,
     /// There was no memory for the answer.
     NoMemory,
+}
+
+impl PropError {
+    /// The error's number in libmpv's `client.h`, with which a request for the property is
+    /// answered: `PROPERTY_ERROR` (-11) for one that may not be set, and where no track has the
+    /// number.
+    pub fn number(self) -> i32
+        ensures { result ≡ error_number self }
+    {
+        match self {
+            PropError::NotFound => -8,
+            PropError::PropertyFormat => -9,
+            PropError::Unavailable => -10,
+            PropError::ReadOnly | PropError::NoSuchTrack => -11,
+            PropError::Unsupported => -18,
+            PropError::NoMemory => -2,
+        }
+    }
 }
 
 impl From<AllocError> for PropError {

@@ -3,8 +3,8 @@ ghost use Rattle.std.specs.Option.{option_copied};
 ghost use Rattle.mc_value.specs.declared.value.Format.{Format};
 ghost use Rattle.mc_props.specs.Entries.{AreEntries, place_of, property_part};
 ghost use Rattle.mc_props.specs.Fields.{Agree, AgreeOutside, share_field};
-ghost use Rattle.mc_props.specs.Readings.{Answers, got, got_at, mask_at, present_of, read_at};
-ghost use Rattle.mc_props.specs.Settings.{set_to};
+ghost use Rattle.mc_props.specs.Readings.{Answers, IsPresented, PresentsSame, got, got_at, mask_at, present_of, read_at};
+ghost use Rattle.mc_props.specs.Settings.{SelectsKnown, set_to};
 ghost use Rattle.mc_props.specs.declared.facts.Facts.{Facts};
 
 use crate::entries::{PropEntries, PropEntry, place_of};
@@ -24,6 +24,7 @@ use std::marker::{Model, PhantomData};
 /// `M` at each entry's place on any facts. Facts that agree on an entry's mask show the same there.
 #[derive(Drop)]
 pub struct PropTable<F: Reads<M>, M: Meaning> {
+    // all four are set by `new`, and then read alone; no value lies in the last
     alloc: Global,
     entries: PropEntries,
     reader: F,
@@ -39,14 +40,15 @@ impl<F: Reads<M>, M: Meaning> Model for PropTable<F, M> {
 
     ghost view = { λ t. t.entries };
 
-    ghost invariant = { λ t. ((place : ℕ) → place < length t.entries → F.answers t.reader place) × AreEntries M.value t.entries };
+    ghost invariant = { λ t. ((place : ℕ) → place < length t.entries → F.answers t.reader place)
+        × AreEntries M.value t.entries };
 }
 
 impl<F: Reads<M>, M: Meaning> PropTable<F, M> {
-    /// A table of these entries, fewer than 2^32, with distinct names, of which only `pause`, `mute`,
-    /// `vid`, `aid` and `sid` may be set. The reader may be called for each entry on any facts and
-    /// answers the stated function of `M`, whose values are the same at facts that agree on the
-    /// entry's mask.
+    /// A table of these entries, fewer than 2^32, with distinct names, of which only `pause`,
+    /// `mute`, `vid`, `aid` and `sid` may be set. The reader may be called for each entry on any
+    /// facts and answers the stated function of `M`, whose values are the same at facts that agree
+    /// on the entry's mask.
     pub fn new(alloc: Global, entries: PropEntries, reader: F) -> Self
         requires answers { (place : ℕ) → place < length entries → F.answers reader place }
         requires entries { AreEntries M.value entries }
@@ -74,10 +76,20 @@ impl<F: Reads<M>, M: Meaning> PropTable<F, M> {
     }
 
     /// What setting the property of a name to a value writes; the whole name is looked up, without
-    /// a path. In this order: `NotFound`, `ReadOnly`, `Unavailable` where the property has no value,
-    /// `PropertyFormat` where the value is not what the property takes, `NoSuchTrack` where no track
-    /// of the kind has that number, `Unsupported` where it is encoded.
+    /// a path. In this order: `NotFound`, `ReadOnly`, `Unavailable` where the property has no
+    /// value, `PropertyFormat` where the value is not what the property takes, `NoSuchTrack` where
+    /// no track of the kind has that number, `Unsupported` where it is encoded. A selection has only
+    /// listed tracks that are not encoded, each under its own kind, where the one before it had.
     pub fn set(&self, name: &str, facts: &Facts, value: &Value) -> Result<Write, PropError>
+        ensures value { Answers result (set_to M.value self.now name.now facts.now value.now) }
+        ensures known { IfOk result (λ w. SelectsKnown facts.now w) }
+    {
+        // For the proof: the list says that its tracks' numbers differ.
+        let _tracks = facts.tracks.as_slice();
+        self.set_by_name(name, facts, value)
+    }
+
+    fn set_by_name(&self, name: &str, facts: &Facts, value: &Value) -> Result<Write, PropError>
         ensures { Answers result (set_to M.value self.now name.now facts.now value.now) }
     {
         let Some(place) = place_of(self.entries(), name) else {
@@ -107,20 +119,22 @@ impl<F: Reads<M>, M: Meaning> PropTable<F, M> {
         }
     }
 
-    /// Whether the property at a place may show something else where fields of a mask change. Where
-    /// it isn't affected, it shows the same at facts that differ only in those fields. It takes no
-    /// memory.
+    /// Whether the property at a place may show something else where fields of a mask change; no
+    /// property stands behind the last place. Where it isn't affected, it shows the same at facts
+    /// that differ only in those fields. It takes no memory.
     pub fn affected(&self, entry: u32, mask: u32) -> bool
-        requires { entry < length self.now }
         ensures value { result ≡ share_field (mask_at self.now (Option.Some entry)) mask }
-        ensures spared { result ≡ false → (f g : Facts) → AgreeOutside mask f g → (name : List ℕ) → (format : Format) → present_of M.value (Option.Some entry) name format f ≡ present_of M.value (Option.Some entry) name format g }
+        ensures spared { result ≡ false → entry < length self.now
+            → (f g : Facts) → AgreeOutside mask f g → (name : List ℕ) → (format : Format)
+            → PresentsSame M.value (Option.Some entry) name format f g }
     {
         share_field(self.mask_at(entry), mask)
     }
 
     /// What an observer of a name has: the format, and the value in it; or no format and no value
     /// where the name is unknown, the property has no value or the path leads nowhere in it, or the
-    /// value has no form in the format. Facts that agree on the entry's mask give the same.
+    /// value has no form in the format. Facts that agree on the entry's mask give the same. With
+    /// the place that `find` gives, it is what the table has for the name itself.
     pub fn present(
         &self,
         entry: Option<u32>,
@@ -130,7 +144,9 @@ impl<F: Reads<M>, M: Meaning> PropTable<F, M> {
     ) -> Result<(Format, Value), NoMemory>
         requires known { IfSome entry (λ k. k < length self.now) }
         ensures value { IfOk result (λ p. p ≡ present_of M.value entry name.now format facts.now) }
-        ensures agrees { (g : Facts) → Agree (mask_at self.now entry) facts.now g → present_of M.value entry name.now format facts.now ≡ present_of M.value entry name.now format g }
+        ensures agrees { (g : Facts) → Agree (mask_at self.now entry) facts.now g
+            → PresentsSame M.value entry name.now format facts.now g }
+        ensures presented { IsPresented M.value self.now entry name.now format facts.now }
     {
         let Some(place) = entry else {
             return Ok((Format::None, Value::None));
@@ -152,7 +168,6 @@ impl<F: Reads<M>, M: Meaning> PropTable<F, M> {
     }
 
     fn mask_at(&self, entry: u32) -> u32
-        requires { entry < length self.now }
         ensures value { result ≡ mask_at self.now (Option.Some entry) }
         ensures fit { AreEntries M.value self.now }
     {
@@ -188,7 +203,8 @@ impl<F: Reads<M>, M: Meaning> PropTable<F, M> {
         format: Format,
     ) -> Result<Value, PropError>
         requires { place < length self.now }
-        ensures value { Answers result (got_at M.value (Option.Some place) name.now facts.now format) }
+        ensures value { Answers result
+            (got_at M.value (Option.Some place) name.now facts.now format) }
         ensures fit { AreEntries M.value self.now }
     {
         let _entries = &self.entries;

@@ -8,4 +8,5 @@ pub returns-clause-spared : goal.returns-clause-spared
 returns-clause-spared g c =
     let masks : share_field (mask_at c.args.self.now (Some c.args.entry)) c.args.mask ≡ c.share_field.result =
     ap (λ m. share_field m c.args.mask) (sym c.mask_at.ensures.value) ∙ sym c.share_field.ensures in
-    λ e f h outside name to. spared g.M.Meaning.value c.args.self.now c.mask_at.ensures.fit.masked c.args.entry c.requires c.args.mask (masks ∙ e) f h outside name to
+    λ e lt f h outside name to.
+    spared g.M.Meaning.value c.args.self.now c.mask_at.ensures.fit.masked c.args.entry lt c.args.mask (masks ∙ e) f h outside name to

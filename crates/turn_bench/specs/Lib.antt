@@ -1,3 +1,5 @@
 pub mod Work
 pub mod Teams
 pub mod Posts
+pub mod Cells
+pub mod Boards

@@ -7,6 +7,8 @@ mod entry;
 mod log;
 mod mutexes;
 mod names;
+mod setting;
+mod settings;
 mod shown;
 mod team;
 mod timing;

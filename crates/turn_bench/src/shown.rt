@@ -2,11 +2,13 @@
 use crate::cell::place_in_film;
 use crate::log::Log;
 use crate::names::Unnamed;
+use crate::settings::set_alone;
 use crate::team::{Team, fill, fill_alone};
 use crate::watch::{beside, look_thrice};
 use crate::writers::write_both;
 use mc_packet::Status;
 use mc_turn::Kept;
+use mc_value::Value;
 use std::alloc::Global;
 use std::io;
 use std::sync::Wait;
@@ -43,8 +45,9 @@ pub fn writers<R: Threads + Wait + Sync + Print>(rt: &R, alloc: Global) -> io::R
 pub fn alone<R: Wait + Print>(rt: &R, alloc: Global) -> io::Result<()> {
     let (log, all) = fill_alone(rt, alloc, 3)?;
     let items = log.length();
+    let settings = set_alone(rt, alloc, Value::Int(7))?.length();
     let places = place_in_film::<Unnamed, R>(rt, alloc, 12)?.length();
-    println!(rt; "alone: {items} items, all of them: {all}, {places} place")
+    println!(rt; "alone: {items} items, all of them: {all}, {settings} value, {places} place")
 }
 
 /// A board with a thousand posts.

@@ -1,7 +1,9 @@
 -- A log behind a lock, with the board on which it shows its length.
-use Rattle.std.specs.Prelude.{ℕ, ◌<◌, List, length}
+use Rattle.std.specs.Prelude.{◌≡◌, ℕ, ◌<◌, List, length, Option, IfSome}
 use Rattle.std.specs.List.{AllByRecursion}
+use Rattle.atomic_table.specs.Seated.{TableId}
 use Rattle.mc_board.specs.Statuses.{Posting}
+use Rattle.turn_bench.specs.Posts.{UpTo}
 use Rattle.turn_bench.specs.declared.entry.Entry.{Entry}
 
 -- the log, and what its poster has posted on which board
@@ -18,3 +20,7 @@ IsIn film e = e.item < length film
 
 abbrev pub AreIn : List ℕ → List Entry → Type 0
 AreIn film log = AllByRecursion (IsIn film) log
+
+-- the cell's board is the named one, its poster is of that board and posted no more than the log has, and all of the log lies in the film, where one is named
+abbrev pub IsCell : Option (List ℕ) → TableId → TableId → CellState → Type 0
+IsCell film named board c = (board ≡ named) × (c.posting.board ≡ board) × UpTo (length c.log) c.posting.posted × IfSome film (λ f. AreIn f c.log)

@@ -1,7 +1,7 @@
 // A lock round a value that borrows: a log with its poster, and the board on which it posts.
 ghost use Rattle.std.specs.Prelude.{◌≡◌, ◌<◌, length, IfOk, IfSome};
 ghost use Rattle.mc_turn.specs.Workers.{Grew};
-ghost use Rattle.turn_bench.specs.Cells.{AreIn, CellState, cell_of};
+ghost use Rattle.turn_bench.specs.Cells.{AreIn, CellState, IsCell, cell_of};
 ghost use Rattle.turn_bench.specs.Posts.{UpTo};
 ghost use Rattle.turn_bench.specs.Work.{caller_of};
 
@@ -32,8 +32,7 @@ impl<'b, W: FilmName, K: BoardName> Model for FilmCell<'b, W, K> {
 
     ghost view = { λ c. cell_of c.log c.poster };
 
-    ghost invariant = { λ c. (c.board.now ≡ K.board) × (c.poster.board ≡ c.board.now) × UpTo (length c.log) c.poster.posted
-        × IfSome W.film (λ f. AreIn f c.log) };
+    ghost invariant = { λ c. IsCell W.film K.board c.board.now (cell_of c.log c.poster) };
 }
 
 impl<'b, W: FilmName, K: BoardName> Kept for FilmCell<'b, W, K> {

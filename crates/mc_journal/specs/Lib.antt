@@ -1,4 +1,5 @@
 pub mod Told
+pub mod Callers
 pub mod Choices
 pub mod Films
 pub mod Ranges

@@ -6,10 +6,12 @@
 //! and `specs/Used`, which record may come next.
 #![tactic(auto)]
 
+mod callers;
 mod journals;
 mod law;
 mod record;
 
+pub use callers::{CORE, DEMUXER, DRIVER, reader};
 pub use journals::{
     crowded_journals, forward_journals, worked_films, worked_journals, wrong_journals,
 };

@@ -116,10 +116,14 @@ module _ {E : Type 0} (by : E → ℕ) where
     pub worked_none : (pass : Known E) → pass.inside ≡ false → Worked by P n pass pass
     worked_none pass out = record { lock = refl; outside = out; numbers = refl; made = made_none pass.seen pass.seen refl }
 
-    -- what a worker made, as the pass that its own was joined to has seen it
+    -- what a worker made, in a journal that its pass knows
+    pub made_seen : (xs journal : List E) (before mid : Known E) → before.seen ≡ xs → before.numbers ≡ n ∷ [] → Worked by P n before mid → Seen by mid journal → Made by P n xs journal
+    made_seen xs journal before mid start is w seen = subst (λ (l : List E). Made by P n l journal) start
+        (made_still before.seen mid.seen journal w.made (seen.own n (has_only mid.numbers n (w.numbers ∙ is))))
+
+    -- and as the pass that its own was joined to has seen it
     pub made_joined : (xs : List E) (before mid after : Known E) → before.seen ≡ xs → before.numbers ≡ n ∷ [] → Worked by P n before mid → Carried by mid after → Made by P n xs after.seen
-    made_joined xs before mid after start is w c = subst (λ (l : List E). Made by P n l after.seen) start
-        (made_still before.seen mid.seen after.seen w.made (c.own n (has_only mid.numbers n (w.numbers ∙ is))))
+    made_joined xs before mid after start is w c = made_seen xs after.seen before mid start is w record { first = c.first; own = c.own }
 
     -- a turn: a pass that was `mid` enters, finds `old`, leaves `new`, and is `after` then
     module _ (before mid inside : Known E) (old new : List E) (w : Worked by P n before mid) (is : before.numbers ≡ n ∷ [])

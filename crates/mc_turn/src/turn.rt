@@ -1,5 +1,5 @@
-ghost use Rattle.std.specs.Prelude.{◌≡◌, ℕ, ◌-◌, ◌^◌, ◌<◌, ◌≤◌, true, false, [], length, IfOk};
-ghost use Rattle.mc_turn.specs.declared.view.Stage.TheVariants.{Out, Waiting, Inside};
+ghost use Rattle.std.specs.Prelude.{◌≡◌, ◌-◌, ◌^◌, ◌<◌, ◌≤◌, true, false, [], length, IfOk};
+ghost use Rattle.mc_turn.specs.declared.view.Stage.TheVariants.{Out, Waiting};
 ghost use Rattle.mc_turn.specs.Callers.{all_but, last_of, CutsRange, Divides, Extends, HasAll, HasBoth, Within};
 ghost use Rattle.mc_turn.specs.Passes.{Carried, Lock, Seen, first_pass, in_one, known, lock_of, with_numbers};
 ghost use Rattle.mc_turn.specs.Rule.{Cuts, Entered, IsLockTable, first_part, second_part, with_ticket};
@@ -183,7 +183,8 @@ impl<T: Kept + Drop> Turn<T> {
         requires lock { seat.old.table_id ≡ self.now.table }
         requires outside { seat.old.me.0.stage ≡ Out }
         requires parts { Cuts keep M.left M.right }
-        ensures lock { (seat.new.table_id ≡ seat.old.table_id) × (result.table_id ≡ seat.old.table_id) }
+        ensures lock { seat.new.table_id ≡ seat.old.table_id }
+        ensures same { result.table_id ≡ seat.old.table_id }
         ensures kept { seat.new.me ≡ (first_part keep seat.old.me.0, seat.old.me.1) }
         ensures given { result.me ≡ (second_part keep seat.old.me.0, []) }
     {

@@ -1,3 +1,4 @@
 pub mod Teams
 pub mod Items
 pub mod Posts
+pub mod SettingLemmas

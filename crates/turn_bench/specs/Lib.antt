@@ -1,3 +1,6 @@
 pub mod Work
 pub mod Teams
 pub mod Posts
+pub mod Settings
+pub mod Cells
+pub mod Boards

@@ -2,27 +2,31 @@
 //! what came of it, which is the same at every run.
 #![tactic(auto)]
 
+mod cell;
+mod entry;
 mod log;
 mod mutexes;
+mod names;
+mod setting;
+mod settings;
+mod shown;
 mod team;
 mod timing;
 mod watch;
+mod writers;
 
-use mc_turn::Kept;
 use std::alloc::Global;
 use std::sync::Wait;
 use std::thread::Threads;
 use std::{env, io};
-use team::Team;
 
-// Eight workers with a thousand turns each, and a board with a thousand posts.
+// All that is printed without words.
 fn show<R: Threads + Wait + Sync + Print>(rt: &R, alloc: Global) -> io::Result<()> {
-    let (log, all) = team::fill(rt, alloc, Team::Eight, 1000)?;
-    let count = log.length();
-    let in_order = (0..8u32).all(|number| log.is_in_order(number));
-    println!(rt; "{count} turns, all of them: {all}, each number's in order: {in_order}")?;
-    let seq = watch::beside(rt, alloc, 1000, 1000, false)?.seq;
-    println!(rt; "the board shows {seq}")
+    shown::team(rt, alloc)?;
+    shown::writers(rt, alloc)?;
+    shown::alone(rt, alloc)?;
+    shown::board(rt, alloc)?;
+    shown::looks(rt, alloc)
 }
 
 fn main(rt: HostRuntime) -> io::Result<()> {

@@ -1,6 +1,7 @@
-ghost use Rattle.std.specs.Prelude.{◌≡◌, ◌+◌, ◌^◌, ◌<◌, ◌≤◌, ◌∷◌, [], false, IfOk};
+ghost use Rattle.std.specs.Prelude.{◌+◌, ◌≡◌, ◌^◌, ◌<◌, ◌∷◌, [], IfOk};
 ghost use Rattle.mc_turn.specs.Callers.{count_from};
-ghost use Rattle.turn_bench.specs.Work.{Worked, Made};
+ghost use Rattle.mc_turn.specs.Workers.{IsReady};
+ghost use Rattle.turn_bench.specs.Work.{FilledBy, IsAlone, Teamed};
 ghost use Rattle.turn_bench.specs.Teams.{size_of};
 
 use crate::log::Log;
@@ -20,10 +21,8 @@ pub fn work<R: Wait>(
     number: u32,
     count: u64,
 ) -> (Pass<Log>, bool)
-    requires lock { pass.lock ≡ turn.now }
-    requires outside { pass.inside ≡ false }
-    requires number { pass.numbers ≡ number ∷ [] }
-    ensures worked { Worked count result.1 pass result.0 }
+    requires ready { IsReady turn.now (number ∷ []) pass }
+    ensures teamed { Teamed count result.1 pass result.0 }
 {
     for item in 0..count {
         let mut log = turn.enter(rt, &mut pass, bell);
@@ -46,23 +45,21 @@ pub fn pair<R: Threads + Wait + Sync>(
     first: u32,
     count: u64,
 ) -> (Pass<Log>, bool)
-    requires lock { pass.lock ≡ turn.now }
-    requires outside { pass.inside ≡ false }
-    requires numbers { pass.numbers ≡ count_from first 2 }
+    requires ready { IsReady turn.now (count_from first 2) pass }
     requires fits { first + 2 < 2 ^ 32 }
-    ensures worked { Worked count result.1 pass result.0 }
+    ensures teamed { Teamed count result.1 pass result.0 }
 {
     let second = first + 1;
     let other = turn.split(&mut pass, 1);
     let ((mut one, first_done), (two, second_done)) = thread::join(
         rt,
         move || -> (Pass<Log>, bool)
-            requires { (pass.lock ≡ turn.now) × (pass.inside ≡ false) × (pass.numbers ≡ first ∷ []) }
-            ensures { Worked count result.1 pass result.0 }
+            requires { IsReady turn.now (first ∷ []) pass }
+            ensures { Teamed count result.1 pass result.0 }
         { work(rt, turn, bell, pass, first, count) },
         move || -> (Pass<Log>, bool)
-            requires { (other.lock ≡ turn.now) × (other.inside ≡ false) × (other.numbers ≡ second ∷ []) }
-            ensures { Worked count result.1 other result.0 }
+            requires { IsReady turn.now (second ∷ []) other }
+            ensures { Teamed count result.1 other result.0 }
         { work(rt, turn, bell, other, second, count) },
     );
     turn.join(&mut one, two);
@@ -78,23 +75,21 @@ pub fn quad<R: Threads + Wait + Sync>(
     first: u32,
     count: u64,
 ) -> (Pass<Log>, bool)
-    requires lock { pass.lock ≡ turn.now }
-    requires outside { pass.inside ≡ false }
-    requires numbers { pass.numbers ≡ count_from first 4 }
+    requires ready { IsReady turn.now (count_from first 4) pass }
     requires fits { first + 4 < 2 ^ 32 }
-    ensures worked { Worked count result.1 pass result.0 }
+    ensures teamed { Teamed count result.1 pass result.0 }
 {
     let second = first + 2;
     let other = turn.split(&mut pass, 2);
     let ((mut one, first_done), (two, second_done)) = thread::join(
         rt,
         move || -> (Pass<Log>, bool)
-            requires { (pass.lock ≡ turn.now) × (pass.inside ≡ false) × (pass.numbers ≡ count_from first 2) × (first + 2 < 2 ^ 32) }
-            ensures { Worked count result.1 pass result.0 }
+            requires { IsReady turn.now (count_from first 2) pass × (first + 2 < 2 ^ 32) }
+            ensures { Teamed count result.1 pass result.0 }
         { pair(rt, turn, bell, pass, first, count) },
         move || -> (Pass<Log>, bool)
-            requires { (other.lock ≡ turn.now) × (other.inside ≡ false) × (other.numbers ≡ count_from second 2) × (second + 2 < 2 ^ 32) }
-            ensures { Worked count result.1 other result.0 }
+            requires { IsReady turn.now (count_from second 2) other × (second + 2 < 2 ^ 32) }
+            ensures { Teamed count result.1 other result.0 }
         { pair(rt, turn, bell, other, second, count) },
     );
     turn.join(&mut one, two);
@@ -109,21 +104,19 @@ pub fn eight<R: Threads + Wait + Sync>(
     mut pass: Pass<Log>,
     count: u64,
 ) -> (Pass<Log>, bool)
-    requires lock { pass.lock ≡ turn.now }
-    requires outside { pass.inside ≡ false }
-    requires numbers { pass.numbers ≡ count_from 0 8 }
-    ensures worked { Worked count result.1 pass result.0 }
+    requires ready { IsReady turn.now (count_from 0 8) pass }
+    ensures teamed { Teamed count result.1 pass result.0 }
 {
     let other = turn.split(&mut pass, 4);
     let ((mut one, first_done), (two, second_done)) = thread::join(
         rt,
         move || -> (Pass<Log>, bool)
-            requires { (pass.lock ≡ turn.now) × (pass.inside ≡ false) × (pass.numbers ≡ count_from 0 4) }
-            ensures { Worked count result.1 pass result.0 }
+            requires { IsReady turn.now (count_from 0 4) pass }
+            ensures { Teamed count result.1 pass result.0 }
         { quad(rt, turn, bell, pass, 0, count) },
         move || -> (Pass<Log>, bool)
-            requires { (other.lock ≡ turn.now) × (other.inside ≡ false) × (other.numbers ≡ count_from 4 4) }
-            ensures { Worked count result.1 other result.0 }
+            requires { IsReady turn.now (count_from 4 4) other }
+            ensures { Teamed count result.1 other result.0 }
         { quad(rt, turn, bell, other, 4, count) },
     );
     turn.join(&mut one, two);
@@ -161,10 +154,8 @@ impl Team {
         pass: Pass<Log>,
         count: u64,
     ) -> (Pass<Log>, bool)
-        requires lock { pass.lock ≡ turn.now }
-        requires outside { pass.inside ≡ false }
-        requires numbers { pass.numbers ≡ count_from 0 (size_of self) }
-        ensures worked { Worked count result.1 pass result.0 }
+        requires ready { IsReady turn.now (count_from 0 (size_of self)) pass }
+        ensures teamed { Teamed count result.1 pass result.0 }
     {
         match self {
             Team::One => work(rt, turn, bell, pass, 0, count),
@@ -175,18 +166,30 @@ impl Team {
     }
 }
 
-/// A log to which each worker of the team added `count` items, and whether all were added. Each
-/// number then has its first items in the log, in order and once each.
+/// A log to which each worker of the team added `count` items, and whether all were added. The
+/// closed lock's journal is what its callers wrote, and nothing else: each entry bears a worker's
+/// number, and each worker's are its first items, in order and once each.
 pub fn fill<R: Threads + Wait + Sync>(
     rt: &R,
     alloc: Global,
     team: Team,
     count: u64,
 ) -> Result<(Log, bool), NoMemory>
-    ensures made { IfOk result (λ r. (n : _) → n < size_of team → Made n count r.1 [] r.0.entries.items) }
+    ensures filled { IfOk result (λ r. FilledBy (size_of team) count r.1 r.0) }
 {
     let (turn, pass) = Turn::new(alloc, Log::new(alloc), team.size())?;
     let bell = Bell::new();
     let (pass, all) = team.work_all(rt, &turn, &bell, pass, count);
+    Ok((turn.close(rt, pass, &bell), all))
+}
+
+/// The same by one caller, without a thread beside it: the closed lock's journal is the caller's
+/// first items, one after the other.
+pub fn fill_alone<R: Wait>(rt: &R, alloc: Global, count: u64) -> Result<(Log, bool), NoMemory>
+    ensures alone { IfOk result (λ r. IsAlone count r.1 r.0) }
+{
+    let (turn, pass) = Turn::new(alloc, Log::new(alloc), 1)?;
+    let bell = Bell::new();
+    let (pass, all) = work(rt, &turn, &bell, pass, 0, count);
     Ok((turn.close(rt, pass, &bell), all))
 }

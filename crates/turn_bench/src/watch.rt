@@ -91,3 +91,23 @@ pub fn beside<R: Threads + Wait + Sync>(
     board.join(rt, &mut poster, other);
     Ok(board.look(rt, &mut pass))
 }
+
+/// One pass looks at the first status, another at the second, which is posted in between, and is
+/// joined to the poster; and then the first looks again.
+pub fn look_thrice<R: Wait>(
+    rt: &R,
+    alloc: Global,
+    first: Status,
+    second: Status,
+) -> Result<(Status, Status, Status), NoMemory>
+    requires later { first.seq ≤ second.seq }
+    ensures later { IfOk result (λ r. r.0.seq ≤ r.2.seq) }
+{
+    let (board, mut poster, mut pass) = Board::new(rt, alloc, first)?;
+    let mut other = board.split(&mut pass);
+    let one = board.look(rt, &mut pass);
+    board.post(rt, &mut poster, second);
+    let two = board.look(rt, &mut other);
+    board.join(rt, &mut poster, other);
+    Ok((one, two, board.look(rt, &mut pass)))
+}

@@ -13,10 +13,6 @@ mod parts;
 mod prepared;
 mod removals;
 mod rooms;
-#[cfg(test)]
-mod tables;
-#[cfg(test)]
-mod tests;
 mod views;
 
 pub use cache::{Cache, Joins};

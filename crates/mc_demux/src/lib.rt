@@ -28,6 +28,3 @@ pub use job::Job;
 pub use law::{resting_readers, standing_journals};
 pub use shows::shown_readers;
 pub use waiting::{Failure, Switch, Target};
-
-#[cfg(test)]
-mod tests;

@@ -11,8 +11,6 @@ mod merging;
 mod parts;
 mod place;
 mod queue;
-#[cfg(test)]
-mod tests;
 mod times;
 
 pub use differences::Difference;

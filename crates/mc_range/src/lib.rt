@@ -14,8 +14,6 @@ mod place;
 mod queues;
 mod range;
 mod serving;
-#[cfg(test)]
-mod tests;
 mod tracks;
 
 pub use cutting::Cut;

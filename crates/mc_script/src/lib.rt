@@ -12,11 +12,7 @@ mod lines;
 mod options;
 mod plays;
 mod script;
-#[cfg(test)]
-mod script_tests;
 mod switches;
-#[cfg(test)]
-mod tests;
 mod transcript;
 mod words;
 

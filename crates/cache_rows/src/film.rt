@@ -1,0 +1,95 @@
+ghost use Rattle.std.specs.Prelude.{◌≤◌, ◌<◌, IsTrue};
+ghost use Rattle.mc_queue.specs.Places.{weights};
+ghost use Rattle.mc_cache.specs.Cache.{ranges_of, weight_of};
+
+use bytes::Bytes;
+use mc_cache::Cache;
+use mc_packet::{Chunk, Ending, Heads, NoMemory, Packet, Packets};
+use rows::RowError;
+use rows_packets::{at, mark_at};
+use std::alloc::Global;
+
+// The most octets of a cache that is fed.
+const MOST: u128 = 1_000_000;
+
+/// The head of the one track at a block.
+pub fn heads_at(block: u16) -> Heads {
+    Heads {
+        video: Some(at(block as u64)),
+        audio: None,
+        sub: None,
+    }
+}
+
+// At least the weight of all packets.
+fn weight(cache: &Cache) -> u128
+    ensures { weight_of (ranges_of cache.now) ≤ result }
+{
+    let heads = heads_at(0);
+    cache.forward(&heads) as u128 + cache.back(&heads) as u128
+}
+
+// At most one packet, whose payload is short.
+fn is_light(packets: &[Packet]) -> bool
+    ensures { IsTrue result → weights packets.now < 1000 }
+{
+    match packets {
+        [] => true,
+        [packet] => packet.body.len() < 900,
+        _ => false,
+    }
+}
+
+// A packet in a block: its time is ten times the block and so much more.
+fn packet(block: u16, later: i64, sync: bool) -> Packet {
+    Packet {
+        track: 1,
+        pos: at(block as u64),
+        time: (block as i64 * 10).saturating_add(later),
+        sync,
+        key: sync,
+        body: Bytes::new(),
+    }
+}
+
+// The packet that a letter names in a block.
+fn packet_of(letter: char, block: u16) -> Option<Packet> {
+    match letter {
+        'k' => Some(packet(block, 0, true)),
+        'p' => Some(packet(block, 0, false)),
+        'x' => Some(packet(block, 1, true)),
+        _ => None,
+    }
+}
+
+fn packets_of(alloc: Global, letter: char, block: u16) -> Result<Packets, NoMemory> {
+    let mut packets = Packets::new(alloc);
+    if let Some(packet) = packet_of(letter, block) {
+        packets.push(packet)?;
+    }
+    Ok(packets)
+}
+
+/// Reads the film on, over a packet, or up to a block without one.
+pub fn read(alloc: Global, cache: &mut Cache, letter: char, block: u16) -> Result<(), RowError> {
+    let from = cache.mark().ok_or(RowError::BadRow)?;
+    let packets = packets_of(alloc, letter, block)?;
+    let to = block as u64 + packets.len() as u64;
+    let ending = if letter == 'e' {
+        Some(Ending::Clean)
+    } else {
+        None
+    };
+    let chunk = Chunk {
+        from,
+        to: mark_at(to),
+        packets,
+        ending,
+    };
+    if !chunk.has_shape() || !is_light(chunk.packets.as_slice()) || weight(cache) > MOST {
+        return Err(RowError::BadRow);
+    }
+    cache.make_room_to_feed(&chunk)?;
+    cache.feed(chunk)?;
+    Ok(())
+}

@@ -6,3 +6,6 @@ pub mod Runs
 pub mod Laws
 pub mod Given
 pub mod Plain
+pub mod Heads
+pub mod Children
+pub mod Laced

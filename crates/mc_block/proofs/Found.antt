@@ -5,7 +5,7 @@ use Rattle.std.specs.Option.{option_or}
 use Rattle.std.proofs.lemmas.Bool.{le-leb, lt-leb}
 use Rattle.mc_block.specs.declared.group.Child.{Child}
 use Rattle.mc_block.specs.declared.group.GroupParts.{GroupParts}
-use Rattle.mc_block.specs.Group.{child_at, children, children_of, and_others, found_among, with_child, first_block, refers}
+use Rattle.mc_block.specs.Group.{child_at, children, children_of, found_among, with_child, first_block, refers}
 
 abbrev made : Option Child → Bool → GroupParts
 made block had = record { block = block; refers = had }

@@ -1,5 +1,5 @@
 -- What holds of the value of a definition holds of a call that gives it.
-use Rattle.std.proofs.Common.{◌≡◌, Result, Ok, Err, IfOk, sym, subst}
+use Rattle.std.proofs.Common.{Result, Ok, Err, IfOk, subst}
 use Rattle.std.specs.Prelude.{OnOk}
 use Rattle.mc_block.specs.declared.error.BlockError.{BlockError}
 use Rattle.mc_block.specs.Block.{Gives}

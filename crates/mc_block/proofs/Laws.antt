@@ -1,5 +1,5 @@
 -- What the packets of a block have in common.
-use Rattle.std.proofs.Common.{◌≡◌, ℕ, ◌+◌, ◌-◌, ◌<◌, ◌≤◌, ◌==◌, Bool, true, false, ◌&&◌, cond, List, [], ◌∷◌, length, drop, take, min, Option, Some, None, Result, Ok, Err, refl, sym, ap, ◌∙◌, arith, length-drop, IfOk, ℤ, map}
+use Rattle.std.proofs.Common.{◌≡◌, ℕ, ◌+◌, ◌-◌, ◌≤◌, ◌==◌, Bool, true, false, ◌&&◌, cond, List, [], ◌∷◌, length, drop, Result, Ok, Err, refl, ap, arith, length-drop, IfOk, map}
 use Rattle.std.specs.Prelude.{slice_range, sum_by, All}
 use Rattle.std.specs.List.{range_with_len}
 use Rattle.std.proofs.lemmas.List.{length-take}
@@ -10,12 +10,14 @@ use Rattle.mc_ebml.specs.declared.read.Coded.{Coded}
 use Rattle.mc_ebml.specs.declared.read.EbmlError.{EbmlError}
 use Rattle.mc_ebml.specs.Element.{coded_at}
 use Rattle.mc_block.specs.declared.error.BlockError.{BlockError}
-use Rattle.mc_block.specs.declared.error.BlockError.TheVariants.{TimeRange, ShortBlock}
+use Rattle.mc_block.specs.declared.error.BlockError.TheVariants.{TimeRange}
 use Rattle.mc_block.specs.declared.parts.Place.{Place}
 use Rattle.mc_block.specs.declared.parts.BlockHead.{BlockHead}
 use Rattle.mc_block.specs.declared.parts.BlockBody.{BlockBody}
 use Rattle.mc_block.specs.Frames.{frames_of, AreRun, FillUp}
-use Rattle.mc_block.specs.Block.{◌>>=◌, frame_time, in_range, packet_of, packets_from, packets_behind, packets_of, is_key, head_of, number_of, behind_track, track_of, AreOfBlock}
+use Rattle.mc_block.specs.Block.{◌>>=◌, frame_time, in_range, packets_from, packets_behind, packets_of, is_key, head_of, number_of, behind_track, track_of, AreOfBlock}
+use Rattle.mc_ebml.specs.Written.{coded_width}
+use Rattle.mc_block.proofs.Narrow.{IsNarrow, coded_narrow}
 use Rattle.mc_block.proofs.Runs.{frames_fill}
 
 -- the same from a lane on, of frames that lie between two places
@@ -115,26 +117,49 @@ head_track octets = go (number_of (coded_at octets 0))
     go (Err e) = tt
     go (Ok n) = behind n (drop n.width octets)
 
+-- behind the head, which is no shorter than it has to be
+abbrev pub Rests : List ℕ → BlockHead → Type 0
+Rests octets h = (coded_width h.track + 3 ≤ h.at) × (h.at ≤ length octets)
+
+behind_rests : (octets : List ℕ) (n : Coded) (rest : List ℕ) → drop n.width octets ≡ rest → IsNarrow n → IfOk (behind_track n rest) (Rests octets)
+behind_rests octets n [] is narrow = tt
+behind_rests octets n (a ∷ []) is narrow = tt
+behind_rests octets n (a ∷ b ∷ []) is narrow = tt
+behind_rests octets n (a ∷ b ∷ flags ∷ rest) is narrow = let wide = narrow.0 in (omega arith, omega (arith, length-drop n.width octets, ap length is))
+
+head_rests : (octets : List ℕ) → IfOk (head_of octets) (Rests octets)
+unfolding head_of
+head_rests octets = go (coded_at octets 0) (coded_narrow octets 0)
+  where
+    go : (r : Result Coded EbmlError) → IfOk r IsNarrow → IfOk (number_of r >>= λ n. behind_track n (drop n.width octets)) (Rests octets)
+    go (Err e) h = tt
+    go (Ok n) h = behind_rests octets n (drop n.width octets) refl h
+
 -- whatever the octets are
 pub packets_are_of_block : (place : Place) (body : BlockBody) → IfOk (packets_of place body) (AreOfBlock place body.octets)
 unfolding packets_of
-packets_are_of_block place body = go (head_of body.octets) (head_track body.octets)
+packets_are_of_block place body = go (head_of body.octets) (head_track body.octets) (head_rests body.octets)
   where
-    told : (head : BlockHead) → track_of body.octets ≡ Ok head.track → (r : Result (List Packet) BlockError)
+    told : (head : BlockHead) → track_of body.octets ≡ Ok head.track → Rests body.octets head → (r : Result (List Packet) BlockError)
         → IfOk r (AreFrames place head 0 0 (length (drop head.at body.octets))) → IfOk r (AreOfBlock place body.octets)
-    told head e (Err f) h = tt
-    told head e (Ok packets) h = record {
+    told head e rests (Err f) h = tt
+    told head e rests (Ok packets) h = record {
       tracks = λ k d lt. let t = h.tracks k d lt in cc (e, t);
       blocks = h.blocks;
       lanes = h.lanes;
       times = h.times;
       payloads = omega (arith, h.payloads, length-drop head.at body.octets);
+      room = λ n is.
+          let same : n ≡ head.track = cc (e, is) in
+          let low = rests.0 in
+          let high = rests.1 in
+          rw same (omega (arith, h.payloads, length-drop head.at body.octets));
     }
 
-    go : (r : Result BlockHead BlockError) → IfOk r (Bears (track_of body.octets))
+    go : (r : Result BlockHead BlockError) → IfOk r (Bears (track_of body.octets)) → IfOk r (Rests body.octets)
         → IfOk (r >>= λ head. packets_behind place head (is_key body.keyframe head.flags) (drop head.at body.octets)) (AreOfBlock place body.octets)
-    go (Err e) h = tt
-    go (Ok head) h =
+    go (Err e) h rests = tt
+    go (Ok head) h rests =
         let rest : List ℕ = drop head.at body.octets in
         let key : Bool = is_key body.keyframe head.flags in
-        told head h (packets_behind place head key rest) (behind_frames place head key rest)
+        told head h rests (packets_behind place head key rest) (behind_frames place head key rest)

@@ -3,6 +3,7 @@ pub mod Found
 pub mod FarTimes
 pub mod Payloads
 pub mod Runs
+pub mod Narrow
 pub mod Laws
 pub mod Given
 pub mod Plain

@@ -1,12 +1,12 @@
 -- An unlaced SimpleBlock, read back.
-use Rattle.std.proofs.Common.{◌≡◌, ℕ, ◌+◌, ◌-◌, ◌*◌, ◌<◌, ◌≤◌, ◌^◌, ◌==◌, Bool, true, false, ◌&&◌, cond, List, [], ◌∷◌, ◌++◌, length, drop, take, Some, None, Result, Ok, Err, refl, sym, ap, ◌∙◌, arith, append_assoc, length-append, ltb, ℤ}
+use Rattle.std.proofs.Common.{◌≡◌, ℕ, ◌+◌, ◌-◌, ◌*◌, ◌^◌, Bool, true, false, ◌&&◌, List, [], ◌∷◌, ◌++◌, length, drop, None, Ok, refl, ap, ◌∙◌, arith, append_assoc, length-append, ltb, ℤ}
 use Rattle.std.proofs.Math.Seq.{drop-append_seam, drop-append-add}
 use Rattle.std.proofs.lemmas.List.{take_all}
 use Rattle.std.proofs.lemmas.Bool.{le-ltb}
 use Rattle.std.proofs.lemmas.Nat.{from_be_bytes-to_be_bytes_2}
 use Rattle.std.proofs.lemmas.Int.{to_z-of_z}
 use Rattle.std.proofs.Math.Facts.{Fits-of_z}
-use Rattle.std.specs.Int.{byte_at, cast_signed, cast_unsigned, from_be_bytes, to_be_bytes, w16}
+use Rattle.std.specs.Int.{byte_at, cast_signed, cast_unsigned, w16}
 use Rattle.std.specs.Prelude.{slice_range, FitsSigned}
 use Rattle.byteorder.specs.Numbers.{length-bytes_high_first}
 use Rattle.mc_packet.specs.declared.packet.Packet.{Packet}
@@ -14,11 +14,10 @@ use Rattle.mc_ebml.specs.declared.read.Size.{Size}
 use Rattle.mc_ebml.specs.declared.read.Size.TheVariants.{Known}
 use Rattle.mc_ebml.specs.Element.{coded_at}
 use Rattle.mc_ebml.specs.Written.{coded_width, coded_octets, head_octets, HasCoded, HasHead, HasElement}
-use Rattle.mc_block.specs.declared.error.BlockError.{BlockError}
 use Rattle.mc_block.specs.declared.parts.Place.{Place}
 use Rattle.mc_block.specs.declared.parts.BlockHead.{BlockHead}
 use Rattle.mc_block.specs.Frames.{frames_of}
-use Rattle.mc_block.specs.Block.{◌>>=◌, relative_of, head_of, is_key, packets_of, packets_behind, packets_from, block_of, frame_time, in_range}
+use Rattle.mc_block.specs.Block.{relative_of, head_of, is_key, packets_of, packets_behind, block_of, frame_time, in_range}
 use Rattle.mc_block.specs.Written.{key_flags, plain_block, HasPacket}
 use Rattle.mc_block.proofs.Laces.{single_frame}
 

@@ -1,5 +1,5 @@
 -- The frames of a lace lie one behind another up to the block's end.
-use Rattle.std.proofs.Common.{◌≡◌, ℕ, zero, suc, ◌+◌, ◌-◌, ◌<◌, ◌≤◌, ◌%◌, ◌/◌, ◌==◌, Bool, true, false, cond, List, [], ◌∷◌, ◌++◌, length, drop, sum, Option, Some, None, Result, Ok, Err, refl, sym, ap, ◌∙◌, arith, length-drop, IfOk, leb, ltb, ℤ, pos, negsuc}
+use Rattle.std.proofs.Common.{◌≡◌, ℕ, zero, suc, ◌+◌, ◌-◌, ◌≤◌, ◌%◌, ◌/◌, ◌==◌, Bool, true, false, cond, List, [], ◌∷◌, length, drop, sum, Option, Some, None, Result, Ok, Err, refl, arith, length-drop, IfOk, leb, ltb, ℤ, pos, negsuc}
 use Rattle.std.specs.Prelude.{IfSome, ◌+ℤ◌, replicate}
 use Rattle.std.proofs.lemmas.Bool.{leb-true}
 use Rattle.std.proofs.lemmas.List.Sums.{sum_by-cons}
@@ -10,9 +10,8 @@ use Rattle.mc_ebml.specs.declared.read.EbmlError.{EbmlError}
 use Rattle.mc_ebml.specs.Element.{coded_at, size_at}
 use Rattle.mc_block.specs.declared.lace.Lacing.{Lacing}
 use Rattle.mc_block.specs.declared.lace.Lacing.TheVariants.{Single, Xiph, Fixed, Ebml}
-use Rattle.mc_block.specs.declared.error.BlockError.{BlockError}
 use Rattle.mc_block.specs.declared.error.BlockError.TheVariants.{BadLace}
-use Rattle.mc_block.specs.Frames.{Front, ◌then◌, longer, xiph_size, known, sized, first_size, difference, natural, changed, changed_size, next_size, size_in_front, coded_sizes, fixed_sizes, lace_sizes, spans, fitted, laced, lacing_of, frames_in, frames_of, AreRun, FillUp}
+use Rattle.mc_block.specs.Frames.{Front, ◌then◌, longer, xiph_size, known, sized, first_size, difference, natural, changed, changed_size, next_size, size_in_front, coded_sizes, lace_sizes, spans, fitted, laced, lacing_of, frames_in, frames_of, AreRun, FillUp}
 
 -- what is left behind something is no longer than the whole
 abbrev pub Leaves : {A : Type 0} → ℕ → Front A → Type 0

@@ -1,11 +1,12 @@
 -- The packets of a block (RFC 9559, sections 10.1 to 10.3).
-use Rattle.std.specs.Prelude.{◌≡◌, ℕ, ◌+◌, ◌*◌, ◌^◌, Bool, true, false, not, ◌&&◌, nat_lt, nat_le, ◌==◌, if◌then◌else◌, List, [], ◌∷◌, length, drop, slice_range, map, sum_by, All, IsTrue, ◌≤◌, Option, Some, None, option_map, unwrap_or, Result, Ok, Err, ℤ, pos, neg_ℤ, ◌+ℤ◌, ◌*ℤ◌, int_le}
+use Rattle.std.specs.Prelude.{◌≡◌, ℕ, ◌+◌, ◌*◌, ◌^◌, Bool, not, ◌&&◌, nat_lt, nat_le, ◌==◌, if◌then◌else◌, List, [], ◌∷◌, length, drop, slice_range, map, sum_by, All, IsTrue, ◌≤◌, Option, Some, None, option_map, unwrap_or, Result, Ok, Err, ℤ, pos, neg_ℤ, ◌+ℤ◌, ◌*ℤ◌, int_le}
 use Rattle.std.specs.Int.{cast_signed, from_be_bytes, w16}
 use Rattle.std.specs.List.{range_with_len}
 use Rattle.mc_packet.specs.declared.packet.Packet.{Packet}
 use Rattle.mc_ebml.specs.declared.read.Coded.{Coded}
 use Rattle.mc_ebml.specs.declared.read.EbmlError.{EbmlError}
 use Rattle.mc_ebml.specs.Element.{coded_at}
+use Rattle.mc_ebml.specs.Written.{coded_width}
 use Rattle.mc_block.specs.declared.error.BlockError.{BlockError}
 use Rattle.mc_block.specs.declared.error.BlockError.TheVariants.{ShortBlock, TooLarge, TimeRange, BadGroup, NoMemory}
 use Rattle.mc_block.specs.declared.parts.Place.{Place}
@@ -134,11 +135,13 @@ packets_in place (Some body) = packets_of place body
 unfoldable pub group_of : Place → List ℕ → Result (List Packet) BlockError
 group_of place body = group_body_of body >>= packets_in place
 
--- what the packets of a block have in common: its track and place, lanes from 0 on, times in range, and
--- payloads that take no more than the block's octets
+-- what the packets of a block have in common: its track and place, lanes from 0 on, times in range, and payloads
+-- that take no more than the block's octets, also where the track number, the time and the flags are written before them
+-- in the fewest octets
 pub record AreOfBlock (place : Place) (octets : List ℕ) (packets : List Packet) : Type 0 where
   pub tracks : All (λ (p : Packet). track_of octets ≡ Ok p.track) packets
   pub blocks : All (λ (p : Packet). p.pos.block ≡ place.pos) packets
   pub lanes : map (λ (p : Packet). p.pos.lane) packets ≡ range_with_len 0 (length packets)
   pub times : All (λ (p : Packet). IsTrue (in_range p.time)) packets
   pub payloads : sum_by (λ (p : Packet). length p.body) packets ≤ length octets
+  pub room : (n : ℕ) → track_of octets ≡ Ok n → coded_width n + 3 + sum_by (λ (p : Packet). length p.body) packets ≤ length octets

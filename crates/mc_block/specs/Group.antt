@@ -7,6 +7,7 @@ use Rattle.mc_ebml.specs.declared.read.Size.TheVariants.{Known, Unknown}
 use Rattle.mc_ebml.specs.declared.read.Head.{Head}
 use Rattle.mc_ebml.specs.declared.read.EbmlError.{EbmlError}
 use Rattle.mc_ebml.specs.Element.{head_at}
+use Rattle.mc_ebml.specs.Ids.{BLOCK, REFERENCE_BLOCK}
 use Rattle.mc_block.specs.declared.group.Child.{Child}
 use Rattle.mc_block.specs.declared.group.GroupParts.{GroupParts}
 
@@ -37,11 +38,11 @@ children_of octets = children (length octets) octets 0
 
 -- the first Block
 abbrev pub first_block : List Child → Option Child
-first_block cs = find (λ (c : Child). c.id == 0xA1) cs
+first_block cs = find (λ (c : Child). c.id == BLOCK) cs
 
 -- whether a ReferenceBlock stands among them
 abbrev pub refers : List Child → Bool
-refers cs = list_any (λ (c : Child). c.id == 0xFB) cs
+refers cs = list_any (λ (c : Child). c.id == REFERENCE_BLOCK) cs
 
 -- what a group tells of its block
 abbrev pub found_among : List Child → GroupParts
@@ -50,6 +51,6 @@ found_among cs = record { block = first_block cs; refers = refers cs }
 -- the same after one child more
 abbrev pub with_child : GroupParts → Child → GroupParts
 with_child found c = record {
-  block = option_or found.block (if c.id == 0xA1 then Some c else None);
-  refers = found.refers || (c.id == 0xFB);
+  block = option_or found.block (if c.id == BLOCK then Some c else None);
+  refers = found.refers || (c.id == REFERENCE_BLOCK);
 }

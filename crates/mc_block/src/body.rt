@@ -6,7 +6,7 @@ use crate::error::BlockError;
 use crate::parts::{BlockBody, BlockHead};
 use bytes::Bytes;
 use mc_ebml::{Coded, read_coded};
-use mc_packet::TrackNo;
+use mc_packet::{LARGEST_BLOCK, TrackNo};
 
 // The track number, which may be all ones.
 fn read_number(octets: &[u8]) -> Result<Coded, BlockError>
@@ -64,7 +64,7 @@ pub fn simple_body(body: &Bytes) -> Result<BlockBody, BlockError>
     ensures value { Gives result (simple_body_of body.now) }
     ensures small { IfOk result (λ block. length block.octets ≤ 67108864) }
 {
-    if body.len() > MOST {
+    if body.len() as u64 > LARGEST_BLOCK {
         return Err(BlockError::TooLarge);
     }
     Ok(BlockBody {
@@ -72,6 +72,3 @@ pub fn simple_body(body: &Bytes) -> Result<BlockBody, BlockError>
         keyframe: None,
     })
 }
-
-/// The most octets that a block's element may have.
-pub(crate) const MOST: usize = 67_108_864;

@@ -5,11 +5,11 @@ ghost use Rattle.mc_block.specs.Fronts.{child_by};
 ghost use Rattle.mc_block.specs.Group.{child_at, children_of, with_child, found_among};
 ghost use Rattle.mc_block.specs.Block.{Gives, group_body_of};
 
-use crate::body::MOST;
 use crate::error::BlockError;
 use crate::parts::BlockBody;
 use bytes::Bytes;
-use mc_ebml::{Size, read_head};
+use mc_ebml::{Size, ids, read_head};
+use mc_packet::LARGEST_BLOCK;
 
 /// A child of a BlockGroup.
 #[derive(Clone, Copy, Debug, PartialEq, Eq)]
@@ -21,10 +21,6 @@ pub struct Child {
     /// The offset in the group's body at which it ends.
     pub stop: usize,
 }
-
-const BLOCK: u32 = 0xA1;
-
-const REFERENCE_BLOCK: u32 = 0xFB;
 
 /// What is found among a BlockGroup's children, so far as they were looked at.
 #[derive(Clone, Copy, Debug, PartialEq, Eq)]
@@ -76,7 +72,8 @@ fn headed_child(front: &[u8], at: usize, len: usize) -> Option<Child>
 fn read_child(octets: &[u8], at: usize) -> Option<Child>
     requires { at ≤ length octets.now }
     ensures value { result ≡ child_at octets.now at }
-    ensures lies { IfSome result (λ c. (at < c.at) × (c.at ≤ c.stop) × (c.stop ≤ length octets.now)) }
+    ensures lies { IfSome result
+        (λ c. (at < c.at) × (c.at ≤ c.stop) × (c.stop ≤ length octets.now)) }
 {
     let (_, rest) = octets.split_at(at);
     let (front, _) = rest.split_at(rest.len().min(HEAD));
@@ -98,10 +95,14 @@ impl GroupParts {
     pub fn with(self, child: Child) -> GroupParts
         ensures { result ≡ with_child self child }
     {
-        let block = if child.id == BLOCK { Some(child) } else { None };
+        let block = if child.id == ids::BLOCK {
+            Some(child)
+        } else {
+            None
+        };
         GroupParts {
             block: self.block.or(block),
-            refers: self.refers || child.id == REFERENCE_BLOCK,
+            refers: self.refers || child.id == ids::REFERENCE_BLOCK,
         }
     }
 }
@@ -109,7 +110,8 @@ impl GroupParts {
 // What the children tell, where each stands whole up to the end of the octets.
 fn read_children(octets: &[u8]) -> Option<GroupParts>
     ensures value { result ≡ option_map found_among (children_of octets.now) }
-    ensures lies { IfSome result (λ f. IfSome f.block (λ c. (c.at ≤ c.stop) × (c.stop ≤ length octets.now))) }
+    ensures lies { IfSome result
+        (λ f. IfSome f.block (λ c. (c.at ≤ c.stop) × (c.stop ≤ length octets.now))) }
 {
     let mut found = GroupParts::new();
     let mut at = 0;
@@ -135,7 +137,7 @@ pub fn group_body(body: &Bytes) -> Result<Option<BlockBody>, BlockError>
     ensures value { Gives result (group_body_of body.now) }
     ensures small { IfOk result (λ found. IfSome found (λ block. length block.octets ≤ 67108864)) }
 {
-    if body.len() > MOST {
+    if body.len() as u64 > LARGEST_BLOCK {
         return Err(BlockError::TooLarge);
     }
     let Some(found) = read_children(body.as_slice()) else {

@@ -43,7 +43,8 @@ pub fn is_laced(flags: u8) -> bool
 // Frames of these sizes, one behind another from a place on, and one more up to the end.
 fn spans(alloc: Global, sizes: &[u128], at: usize, stop: usize) -> Result<FrameSpans, BlockError>
     requires { at ≤ stop }
-    ensures value { Gives result (if nat_le (sum sizes.now) (stop - at) then Ok (spans at stop sizes.now) else Err BadLace) }
+    ensures value { Gives result (if nat_le (sum sizes.now) (stop - at)
+        then Ok (spans at stop sizes.now) else Err BadLace) }
     ensures lie { IfOk result (All (LiesIn stop)) }
     ensures count { IfOk result (λ frames. length frames ≡ length sizes.now + 1) }
 {

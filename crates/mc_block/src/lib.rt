@@ -1,6 +1,6 @@
-//! Takes blocks of a Matroska film apart into packets (RFC 9559, sections 10.2 and 10.3), and writes
-//! plain ones. It takes the body of a SimpleBlock or a BlockGroup and its place in the film, and
-//! gives the packets that `specs/Block` and `specs/Frames` say it holds, or the first fault.
+//! Takes blocks of a Matroska film apart into packets (RFC 9559, sections 10.2 and 10.3), and
+//! writes plain ones. It takes the body of a SimpleBlock or a BlockGroup and its place in the film,
+//! and gives the packets that `specs/Block` and `specs/Frames` say it holds, or the first fault.
 #![tactic(auto)]
 
 mod body;
@@ -8,11 +8,10 @@ mod error;
 mod group;
 mod lace;
 mod lace_reader;
+mod law;
 mod packets;
 mod parts;
 mod sizes;
-#[cfg(test)]
-mod tests;
 mod times;
 mod write;
 
@@ -21,7 +20,8 @@ pub use error::BlockError;
 pub use group::{Child, GroupParts, child_by_head, group_body};
 pub use lace::{frames, is_laced};
 pub use lace_reader::LaceReader;
+pub use law::plain_blocks;
 pub use packets::{block_packets, is_key, parse_block, parse_group};
 pub use parts::{BlockBody, BlockHead, FrameSpans, Place};
 pub use times::frame_time;
-pub use write::write_simple_block;
+pub use write::{block_len, write_simple_block};

@@ -86,7 +86,8 @@ pub(crate) fn next_size(
 ) -> Option<(u128, usize)>
     requires { unwrap_or before 0 < 2 ^ 100 }
     ensures value { front octets.now result ≡ next_size lacing before octets.now }
-    ensures bounds { IfSome result (λ x. (0 < x.1) × (x.1 ≤ length octets.now) × (x.0 ≤ unwrap_or before 0 + 2 ^ 72)) }
+    ensures bounds { IfSome result
+        (λ x. (0 < x.1) × (x.1 ≤ length octets.now) × (x.0 ≤ unwrap_or before 0 + 2 ^ 72)) }
 {
     match (lacing, before) {
         (Lacing::Ebml, None) => first_size(octets),
@@ -102,8 +103,10 @@ fn coded_sizes(
     n: u8,
     octets: &[u8],
 ) -> Result<Option<(Sizes, usize)>, AllocError>
-    ensures value { IfOk result (λ found. front octets.now found ≡ coded_sizes lacing n None octets.now) }
-    ensures bounds { IfOk result (λ found. IfSome found (λ x. (x.1 ≤ length octets.now) × (length x.0 ≡ n))) }
+    ensures value { IfOk result
+        (λ found. front octets.now found ≡ coded_sizes lacing n None octets.now) }
+    ensures bounds { IfOk result
+        (λ found. IfSome found (λ x. (x.1 ≤ length octets.now) × (length x.0 ≡ n))) }
 {
     let mut sizes = Sizes::new(alloc);
     let mut before = None;
@@ -122,7 +125,8 @@ fn coded_sizes(
 // The sizes of the first n of frames of one size.
 fn fixed_sizes(alloc: Global, n: u8, octets: &[u8]) -> Result<Option<(Sizes, usize)>, AllocError>
     ensures value { IfOk result (λ found. front octets.now found ≡ fixed_sizes n octets.now) }
-    ensures bounds { IfOk result (λ found. IfSome found (λ x. (x.1 ≤ length octets.now) × (length x.0 ≡ n))) }
+    ensures bounds { IfOk result
+        (λ found. IfSome found (λ x. (x.1 ≤ length octets.now) × (length x.0 ≡ n))) }
 {
     let count = n as usize + 1;
     if octets.len() % count != 0 {
@@ -141,7 +145,8 @@ pub(crate) fn lace_sizes(
     octets: &[u8],
 ) -> Result<Option<(Sizes, usize)>, AllocError>
     ensures value { IfOk result (λ found. front octets.now found ≡ lace_sizes lacing n octets.now) }
-    ensures bounds { IfOk result (λ found. IfSome found (λ x. (x.1 ≤ length octets.now) × (length x.0 ≡ n))) }
+    ensures bounds { IfOk result
+        (λ found. IfSome found (λ x. (x.1 ≤ length octets.now) × (length x.0 ≡ n))) }
 {
     match lacing {
         Lacing::Fixed => fixed_sizes(alloc, n, octets),

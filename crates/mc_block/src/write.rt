@@ -1,11 +1,9 @@
 ghost use Rattle.std.specs.Prelude.{◌≡◌, ℤ, Bool, ◌+◌, ◌^◌, ◌<◌, ◌≤◌, ◌++◌, length, OnOk, OnErr, vec_len, vec_capacity};
-ghost use Rattle.mc_ebml.specs.Written.{coded_octets, HasElement};
-ghost use Rattle.mc_block.specs.Written.{key_flags, plain_block, simple_block, HasPacket};
+ghost use Rattle.mc_ebml.specs.Written.{coded_octets};
+ghost use Rattle.mc_block.specs.Written.{key_flags, plain_block, simple_block, HasPacket, HasSimpleBlock};
 
-use mc_ebml::{Size, coded_len, head_len, write_coded, write_head};
+use mc_ebml::{Size, coded_len, head_len, ids, write_coded, write_head};
 use mc_packet::{NoMemory, TrackNo};
-
-const SIMPLE_BLOCK: u32 = 0xA3;
 
 // The flags of a keyframe, or none.
 fn key_flags(key: bool) -> u8
@@ -24,12 +22,14 @@ fn push_octets(out: &mut Vec<u8>, octets: &[u8]) -> Result<(), NoMemory>
     out.extend_from_slice(octets)
 }
 
-// How many octets a block takes, whatever its time and flags.
-fn block_len(track: TrackNo, body: &[u8]) -> usize
+/// How many octets the body of a plain block takes, whatever its time and flags, so that the size
+/// of a Cluster can be told before its blocks are written.
+pub fn block_len(track: TrackNo, body: &[u8]) -> usize
     requires track { track < 2 ^ 56 }
     requires size { length body.now ≤ 67108864 }
     ensures parts { result ≡ length (coded_octets track) + 3 + length body.now }
-    ensures value { (relative : ℤ) (key : Bool) → result ≡ length (plain_block track relative key body.now) }
+    ensures value { (relative : ℤ) (key : Bool)
+        → result ≡ length (plain_block track relative key body.now) }
     ensures small { result < 2 ^ 32 }
 {
     coded_len(track) + 3 + body.len()
@@ -45,11 +45,14 @@ fn push_block(
 ) -> Result<(), NoMemory>
     requires track { track < 2 ^ 56 }
     requires size { length body.now ≤ 67108864 }
-    ensures ok { OnOk result (out.new.items ≡ out.old.items ++ plain_block track relative key body.now) }
+    ensures ok { OnOk result
+        (out.new.items ≡ out.old.items ++ plain_block track relative key body.now) }
     ensures err { OnErr result (out.new.items ≡ out.old.items) }
-    ensures full { OnErr result (vec_capacity out.old < vec_len out.old + length (plain_block track relative key body.now)) }
+    ensures full { let block = plain_block track relative key body.now in
+        OnErr result (vec_capacity out.old < vec_len out.old + length block) }
     ensures capacity { vec_capacity out.old ≤ vec_capacity out.new }
-    ensures packet { OnOk result (HasPacket track relative key body.now (plain_block track relative key body.now)) }
+    ensures packet { OnOk result
+        (HasPacket track relative key body.now (plain_block track relative key body.now)) }
 {
     let [high, low] = relative.to_be_bytes();
     out.reserve(block_len(track, body))?;
@@ -63,6 +66,7 @@ fn push_block(
 /// which none but the keyframe's is set. What it appends is read back as that one packet.
 ///
 /// `NoMemory` comes only where the room for it was not there, and leaves the content as it was.
+#[tactic(auto, unfolding(mc_ebml::specs::Written::element_octets))]
 pub fn write_simple_block(
     out: &mut Vec<u8>,
     track: TrackNo,
@@ -70,17 +74,23 @@ pub fn write_simple_block(
     key: bool,
     body: &[u8],
 ) -> Result<(), NoMemory>
+    // a number that can be coded, and a payload with which the block is not too large to be written
     requires track { track < 2 ^ 56 }
     requires size { length body.now ≤ 67108864 }
-    ensures ok { OnOk result (out.new.items ≡ out.old.items ++ simple_block track relative key body.now) }
+    // what is appended, or nothing where the room is wanting
+    ensures ok { OnOk result
+        (out.new.items ≡ out.old.items ++ simple_block track relative key body.now) }
     ensures err { OnErr result (out.new.items ≡ out.old.items) }
-    ensures full { OnErr result (vec_capacity out.old < vec_len out.old + length (simple_block track relative key body.now)) }
+    ensures full { let block = simple_block track relative key body.now in
+        OnErr result (vec_capacity out.old < vec_len out.old + length block) }
     ensures capacity { vec_capacity out.old ≤ vec_capacity out.new }
-    ensures reads_back { OnOk result (HasElement out.old.items out.new.items 0xA3 (length (plain_block track relative key body.now)) (HasPacket track relative key body.now)) }
+    // and how it is read back
+    ensures reads_back { OnOk result
+        (HasSimpleBlock out.old.items out.new.items track relative key body.now) }
 {
     let len = block_len(track, body);
     let size = Size::Known(len as u64);
-    out.reserve(head_len(SIMPLE_BLOCK, size) + len)?;
-    write_head(out, SIMPLE_BLOCK, size)?;
+    out.reserve(head_len(ids::SIMPLE_BLOCK, size) + len)?;
+    write_head(out, ids::SIMPLE_BLOCK, size)?;
     push_block(out, track, relative, key, body)
 }

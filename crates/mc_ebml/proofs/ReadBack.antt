@@ -1,5 +1,5 @@
 -- What is written is read back, whatever follows.
-use Rattle.std.proofs.Common.{◌≡◌, ℕ, zero, suc, ◌+◌, ◌-◌, ◌*◌, ◌/◌, ◌%◌, ◌^◌, ◌<◌, ◌≤◌, ◌==◌, ◌⊎◌, inl, inr, Bool, true, false, not, ◌||◌, ◌&&◌, cond, List, [], ◌∷◌, ◌++◌, length, drop, Ok, refl, sym, ap, ◌∙◌, arith, append_assoc, length-append, ltb}
+use Rattle.std.proofs.Common.{◌≡◌, ℕ, zero, suc, ◌+◌, ◌-◌, ◌*◌, ◌%◌, ◌^◌, ◌<◌, ◌≤◌, ◌==◌, inl, inr, Bool, true, false, not, ◌&&◌, List, [], ◌∷◌, ◌++◌, length, Ok, refl, sym, ap, ◌∙◌, arith, append_assoc, length-append, ltb}
 use Rattle.std.specs.Int.{byte_at, bytes_high_first, is_in_range}
 use Rattle.std.proofs.lemmas.Bool.{or_cases, le-ltb, ltb-true, ne_eqb}
 use Rattle.std.proofs.lemmas.List.Sums.{take_while-cons}
@@ -12,11 +12,10 @@ use Rattle.std.proofs.Math.Seq.{drop-append_seam}
 use Rattle.std.proofs.Math.Nat.{mod-eq_of_lt, add-mod_left}
 use Rattle.byteorder.specs.Endian.{big_number, big_bytes}
 use Rattle.byteorder.specs.Numbers.{big_number-reads_back, length-bytes_high_first}
-use Rattle.mc_ebml.specs.declared.read.Coded.{Coded}
 use Rattle.mc_ebml.specs.declared.read.Size.{Size}
 use Rattle.mc_ebml.specs.declared.read.Size.TheVariants.{Known, Unknown}
-use Rattle.mc_ebml.specs.Element.{width, coded_from, coded_at, id_from, id_at, size_of, size_at, head_at, uint_of, text_of, whole_text}
-use Rattle.mc_ebml.specs.Written.{marked, is_id, octets_of, coded_width, coded_octets, IsSize, size_width, size_octets, head_octets, HasHead, HasCoded, HasElement, behind_head, has_no_zero}
+use Rattle.mc_ebml.specs.Element.{width, coded_from, coded_at, id_from, id_at, size_of, size_at, head_at, uint_of, text_of}
+use Rattle.mc_ebml.specs.Written.{marked, is_id, octets_of, coded_width, coded_octets, IsSize, size_width, size_octets, head_octets, HasHead, HasCoded, HasElement, behind_head, has_no_zero, HasUint, HasText}
 use Rattle.mc_ebml.proofs.Marks.{marked_fits, first_octet, first_octet_above}
 
 -- a coded number that stands whole
@@ -236,3 +235,19 @@ element_has id size before body after Body is small long b e =
     let whole : length after ≡ length before + length (head_octets id (Known size)) + size =
     ap length e ∙ sym (head_len before (head_octets id (Known size)) body (length (head_octets id (Known size))) size refl long) in
     (head_reads id (Known size) before body after is small e, whole, rw behind b)
+
+-- an element whose body is the octets of an integer
+pub uint_has : (id n : ℕ) (before after octets : List ℕ) → octets ≡ big_bytes (octets_of n) n → n < 2 ^ 64
+    → HasElement before after id (length octets) (λ body. body ≡ octets) → HasUint before after id n
+uint_has id n before after octets is fits has =
+    let reads = uint_reads n fits in
+    let long : length octets ≡ octets_of n = ap length is ∙ length-bytes_high_first (octets_of n) n in
+    let sized : HasElement before after id (octets_of n) (λ body. body ≡ octets) = rw long at has in
+    (sized.0, sized.1, ap uint_of (sized.2 ∙ is) ∙ reads)
+
+-- an element whose body is a text
+pub text_has : (id : ℕ) (before after octets text : List ℕ) → octets ≡ text → IsUtf8 text → has_no_zero text ≡ true
+    → HasElement before after id (length octets) (λ body. body ≡ octets) → HasText before after id text
+text_has id before after octets text is utf8 no_zero has =
+    let sized : HasElement before after id (length text) (λ body. body ≡ text) = rw is at has in
+    (sized.0, sized.1, ap text_of sized.2 ∙ text_reads text utf8 no_zero)

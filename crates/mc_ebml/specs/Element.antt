@@ -69,7 +69,7 @@ whole_text octets = if is_utf8 octets then Ok octets else Err BadText
 unfoldable pub text_of : List ℕ → Result (List ℕ) EbmlError
 text_of body = whole_text (before_first (λ b. b == 0) body)
 
--- a known size has seven octets at most
+-- a known size fits seven octets
 abbrev pub IsSmall : Size → Type 0
 IsSmall Unknown = Unit {0}
 IsSmall (Known n) = n < 2 ^ 56

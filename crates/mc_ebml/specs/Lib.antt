@@ -1,2 +1,4 @@
 pub mod Element
+pub mod Ids
+pub mod Laws
 pub mod Written

@@ -5,7 +5,7 @@ use Rattle.std.specs.List.{list_all}
 use Rattle.byteorder.specs.Endian.{big_bytes}
 use Rattle.mc_ebml.specs.declared.read.Size.{Size}
 use Rattle.mc_ebml.specs.declared.read.Size.TheVariants.{Known, Unknown}
-use Rattle.mc_ebml.specs.Element.{coded_at, head_at}
+use Rattle.mc_ebml.specs.Element.{coded_at, head_at, uint_of, text_of}
 
 -- the IDs that can be read: the marker bit of a coded number of one to four octets is the highest bit
 abbrev pub is_id : ℕ → Bool
@@ -49,12 +49,16 @@ size_octets (Known n) = marked (coded_width (n + 1)) n
 unfoldable pub head_octets : ℕ → Size → List ℕ
 head_octets id size = big_bytes (octets_of id) id ++ size_octets size
 
--- an element whose body is an unsigned integer, and one whose body is a text
-unfoldable pub uint_octets : ℕ → ℕ → List ℕ
-uint_octets id n = head_octets id (Known (octets_of n)) ++ big_bytes (octets_of n) n
+-- an element of known size
+unfoldable pub element_octets : ℕ → List ℕ → List ℕ
+element_octets id body = head_octets id (Known (length body)) ++ body
 
-unfoldable pub text_octets : ℕ → List ℕ → List ℕ
-text_octets id text = head_octets id (Known (length text)) ++ text
+-- an element whose body is an unsigned integer, and one whose body is a text
+abbrev pub uint_octets : ℕ → ℕ → List ℕ
+uint_octets id n = element_octets id (big_bytes (octets_of n) n)
+
+abbrev pub text_octets : ℕ → List ℕ → List ℕ
+text_octets id text = element_octets id text
 
 -- a text that does not end early
 abbrev pub has_no_zero : List ℕ → Bool
@@ -76,4 +80,13 @@ HasCoded before after n = (rest : List ℕ) → coded_at (after ++ rest) (length
 -- behind what stood there the head of an element of known size is read, whatever follows, and its body, up to
 -- the end of the octets, is as told
 abbrev pub HasElement : List ℕ → List ℕ → ℕ → ℕ → (List ℕ → Type 0) → Type 0
-HasElement before after id size Body = HasHead before after id (Known size) × (length after ≡ length before + length (head_octets id (Known size)) + size) × Body (behind_head before id (Known size) after)
+HasElement before after id size Body = HasHead before after id (Known size)
+    × (length after ≡ length before + length (head_octets id (Known size)) + size)
+    × Body (behind_head before id (Known size) after)
+
+-- the same of an unsigned integer, and of a text
+abbrev pub HasUint : List ℕ → List ℕ → ℕ → ℕ → Type 0
+HasUint before after id n = HasElement before after id (octets_of n) (λ body. uint_of body ≡ Ok n)
+
+abbrev pub HasText : List ℕ → List ℕ → ℕ → List ℕ → Type 0
+HasText before after id text = HasElement before after id (length text) (λ body. text_of body ≡ Ok text)

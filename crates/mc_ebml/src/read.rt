@@ -13,19 +13,23 @@ pub enum Size {
     Unknown,
 }
 
-/// The head of an element: its ID with the marker bit kept, its size, and the offset in the
-/// octets that were read at which its body begins.
+/// The head of an element (RFC 8794, sections 5 and 6).
 #[derive(Clone, Copy, Debug, PartialEq, Eq)]
 pub struct Head {
+    /// Its ID with the marker bit, of one to four octets.
     pub id: u32,
+    /// The size of its body.
     pub size: Size,
+    /// The offset at which its body begins, counted as the offset that was handed in.
     pub body: usize,
 }
 
-/// A number coded like a size, without its marker bit, and how many octets it takes.
+/// A number coded like a size (RFC 8794, section 4).
 #[derive(Clone, Copy, Debug, PartialEq, Eq)]
 pub struct Coded {
+    /// The number without its marker bit, below 2^56.
     pub value: u64,
+    /// How many octets it takes, from 1 to 8.
     pub width: usize,
 }
 
@@ -110,7 +114,8 @@ pub(crate) fn all_ones(width: usize) -> u64
 pub fn read_coded(bytes: &[u8], at: usize) -> Result<Coded, EbmlError>
     requires { at ≤ length bytes.now }
     ensures value { result ≡ coded_at bytes.now at }
-    ensures bounds { IfOk result (λ x. (at + x.width ≤ length bytes.now) × (1 ≤ x.width) × (x.width ≤ 8)) }
+    ensures bounds { IfOk result
+        (λ x. (at + x.width ≤ length bytes.now) × (1 ≤ x.width) × (x.width ≤ 8)) }
     ensures small { IfOk result (λ x. x.value < 2 ^ 56) }
 {
     let (_, rest) = bytes.split_at(at);
@@ -201,7 +206,9 @@ pub fn read_uint(body: &[u8]) -> Result<u64, EbmlError>
 /// `BadText` exactly where that part is not UTF-8.
 #[tactic(auto, unfolding(crate::specs::Element::text_of))]
 pub fn read_text(body: &[u8]) -> Result<&str, EbmlError>
-    ensures { MatchResult result (λ s. text_of body.now ≡ Ok s.now) (λ e. text_of body.now ≡ Err e) }
+    ensures { MatchResult result
+        (λ s. text_of body.now ≡ Ok s.now)
+        (λ e. text_of body.now ≡ Err e) }
 {
     checked_text(before_zero(body))
 }
@@ -231,7 +238,9 @@ fn first_zero(body: &[u8]) -> Option<usize>
 // The octets as a text.
 #[tactic(auto, using(crate::proofs::Texts::as_text))]
 fn checked_text(octets: &[u8]) -> Result<&str, EbmlError>
-    ensures { MatchResult result (λ s. whole_text octets.now ≡ Ok s.now) (λ e. whole_text octets.now ≡ Err e) }
+    ensures { MatchResult result
+        (λ s. whole_text octets.now ≡ Ok s.now)
+        (λ e. whole_text octets.now ≡ Err e) }
 {
     match std::str::from_utf8(octets) {
         Ok(text) => Ok(text),

@@ -2,8 +2,7 @@ ghost use Rattle.std.specs.Prelude.{◌≡◌, ◌+◌, ◌-◌, ◌*◌, ◌^�
 ghost use Rattle.std.specs.Prelude.{not, ◌==◌};
 ghost use Rattle.std.specs.List.{list_any};
 ghost use Rattle.byteorder.specs.Endian.{big_bytes};
-ghost use Rattle.mc_ebml.specs.Element.{coded_at, uint_of, text_of};
-ghost use Rattle.mc_ebml.specs.Written.{is_id, octets_of, coded_width, coded_octets, marked, IsSize, size_width, size_octets, head_octets, has_no_zero, HasElement, HasCoded, uint_octets, text_octets, HasHead};
+ghost use Rattle.mc_ebml.specs.Written.{is_id, octets_of, coded_width, coded_octets, marked, IsSize, size_width, size_octets, head_octets, element_octets, has_no_zero, HasElement, HasCoded, HasHead, HasText, HasUint, uint_octets, text_octets};
 
 use crate::read::{Size, all_ones};
 use byteorder::{BigEndian, ByteOrder};
@@ -112,7 +111,8 @@ fn push_size(out: &mut Vec<u8>, size: Size) -> Result<(), NoMemory>
 }
 
 /// Appends a number coded like a size, in the fewest octets whose value bits hold it, as a block's
-/// track number is (RFC 8794, section 4). All its value bits may be ones. `read_coded` gives it back.
+/// track number is (RFC 8794, section 4). All its value bits may be ones. `read_coded` gives it
+/// back.
 ///
 /// `NoMemory` comes only where the room for it was not there, and leaves the content as it was.
 #[tactic(auto, unfolding(crate::specs::Written::coded_octets))]
@@ -120,7 +120,8 @@ pub fn write_coded(out: &mut Vec<u8>, n: u64) -> Result<(), NoMemory>
     requires { n < 2 ^ 56 }
     ensures ok { OnOk result (out.new.items ≡ out.old.items ++ coded_octets n) }
     ensures err { OnErr result (out.new.items ≡ out.old.items) }
-    ensures full { OnErr result (vec_capacity out.old < vec_len out.old + length (coded_octets n)) }
+    ensures full { OnErr result
+        (vec_capacity out.old < vec_len out.old + length (coded_octets n)) }
     ensures capacity { vec_capacity out.old ≤ vec_capacity out.new }
     ensures reads_back { OnOk result (HasCoded out.old.items out.new.items n) }
 {
@@ -144,38 +145,22 @@ pub fn coded_len(n: u64) -> usize
 /// `NoMemory` comes only where the room for it was not there, and leaves the content as it was.
 #[tactic(auto, unfolding(crate::specs::Written::head_octets))]
 pub fn write_head(out: &mut Vec<u8>, id: u32, size: Size) -> Result<(), NoMemory>
+    // an ID that can be read, and a size that can be written
     requires id { IsTrue (is_id id) }
     requires size { IsSize size }
+    // what is appended, or nothing where the room is wanting
     ensures ok { OnOk result (out.new.items ≡ out.old.items ++ head_octets id size) }
     ensures err { OnErr result (out.new.items ≡ out.old.items) }
-    ensures full { OnErr result (vec_capacity out.old < vec_len out.old + length (head_octets id size)) }
+    ensures full { OnErr result
+        (vec_capacity out.old < vec_len out.old + length (head_octets id size)) }
     ensures capacity { vec_capacity out.old ≤ vec_capacity out.new }
+    // and how it is read back
     ensures reads_back { OnOk result (HasHead out.old.items out.new.items id size) }
 {
     let id_width = octets_of(id as u64);
     out.reserve(id_width + size_width(size))?;
     push_number(out, id as u64, id_width)?;
     push_size(out, size)
-}
-
-/// Appends an element whose body is an unsigned integer in the fewest octets (RFC 8794, section
-/// 7.2); 0 takes one. Whatever follows, `read_head` and `read_uint` give it back.
-///
-/// `NoMemory` comes only where the room for it was not there, and leaves the content as it was.
-#[tactic(auto, unfolding(crate::specs::Written::uint_octets))]
-pub fn write_uint(out: &mut Vec<u8>, id: u32, n: u64) -> Result<(), NoMemory>
-    requires id { IsTrue (is_id id) }
-    ensures ok { OnOk result (out.new.items ≡ out.old.items ++ uint_octets id n) }
-    ensures err { OnErr result (out.new.items ≡ out.old.items) }
-    ensures full { OnErr result (vec_capacity out.old < vec_len out.old + length (uint_octets id n)) }
-    ensures capacity { vec_capacity out.old ≤ vec_capacity out.new }
-    ensures reads_back { OnOk result (HasElement out.old.items out.new.items id (octets_of n) (λ body. uint_of body ≡ Ok n)) }
-{
-    let width = octets_of(n);
-    let size = Size::Known(width as u64);
-    out.reserve(head_len(id, size) + width)?;
-    write_head(out, id, size)?;
-    push_number(out, n, width)
 }
 
 /// How many octets `write_head` appends.
@@ -188,23 +173,77 @@ pub fn head_len(id: u32, size: Size) -> usize
     octets_of(id as u64) + size_width(size)
 }
 
+/// Appends an element of known size (RFC 8794, section 6) with that body. Whatever follows,
+/// `read_head` gives its head back, and behind that stands the body.
+///
+/// `NoMemory` comes only where the room for it was not there, and leaves the content as it was.
+#[tactic(auto, unfolding(crate::specs::Written::element_octets))]
+pub fn write_element(out: &mut Vec<u8>, id: u32, body: &[u8]) -> Result<(), NoMemory>
+    // an ID that can be read, and a size that can be written
+    requires id { IsTrue (is_id id) }
+    requires size { length body.now < 2 ^ 56 - 1 }
+    // what is appended, or nothing where the room is wanting
+    ensures ok { OnOk result (out.new.items ≡ out.old.items ++ element_octets id body.now) }
+    ensures err { OnErr result (out.new.items ≡ out.old.items) }
+    ensures full { OnErr result
+        (vec_capacity out.old < vec_len out.old + length (element_octets id body.now)) }
+    ensures capacity { vec_capacity out.old ≤ vec_capacity out.new }
+    // and how it is read back
+    ensures reads_back { OnOk result (HasElement out.old.items out.new.items id (length body.now)
+        (λ octets. octets ≡ body.now)) }
+{
+    let size = Size::Known(body.len() as u64);
+    out.reserve(head_len(id, size) + body.len())?;
+    write_head(out, id, size)?;
+    push_octets(out, body)
+}
+
+/// Appends an element whose body is an unsigned integer in the fewest octets (RFC 8794, section
+/// 7.2); 0 takes one. Whatever follows, `read_head` and `read_uint` give it back.
+///
+/// `NoMemory` comes only where the room for it was not there, and leaves the content as it was.
+pub fn write_uint(out: &mut Vec<u8>, id: u32, n: u64) -> Result<(), NoMemory>
+    requires id { IsTrue (is_id id) }
+    ensures ok { OnOk result (out.new.items ≡ out.old.items ++ uint_octets id n) }
+    ensures err { OnErr result (out.new.items ≡ out.old.items) }
+    ensures full { OnErr result
+        (vec_capacity out.old < vec_len out.old + length (uint_octets id n)) }
+    ensures capacity { vec_capacity out.old ≤ vec_capacity out.new }
+    ensures reads_back { OnOk result (HasUint out.old.items out.new.items id n) }
+{
+    let mut octets = [0u8; 8];
+    let width = octets_of(n);
+    BigEndian::write_uint(&mut octets, n, width);
+    write_element(out, id, &octets[..width])
+}
+
+/// How many octets `write_uint` appends.
+#[tactic(auto, unfolding(crate::specs::Written::element_octets))]
+pub fn uint_len(id: u32, n: u64) -> usize
+    ensures value { result ≡ length (uint_octets id n) }
+    ensures small { result ≤ 24 }
+{
+    let width = octets_of(n);
+    head_len(id, Size::Known(width as u64)) + width
+}
+
 /// Appends an element whose body is a text (RFC 8794, sections 7.4 and 7.5), which has no zero
 /// octet. Whatever follows, `read_head` and `read_text` give it back.
 ///
 /// `NoMemory` comes only where the room for it was not there, and leaves the content as it was.
-#[tactic(auto, unfolding(crate::specs::Written::text_octets))]
 pub fn write_text(out: &mut Vec<u8>, id: u32, text: &str) -> Result<(), NoMemory>
+    // an ID that can be read, and a text that can be written and does not end early
     requires id { IsTrue (is_id id) }
     requires size { length text.now < 2 ^ 56 - 1 }
     requires text { IsTrue (has_no_zero text.now) }
+    // what is appended, or nothing where the room is wanting
     ensures ok { OnOk result (out.new.items ≡ out.old.items ++ text_octets id text.now) }
     ensures err { OnErr result (out.new.items ≡ out.old.items) }
-    ensures full { OnErr result (vec_capacity out.old < vec_len out.old + length (text_octets id text.now)) }
+    ensures full { OnErr result
+        (vec_capacity out.old < vec_len out.old + length (text_octets id text.now)) }
     ensures capacity { vec_capacity out.old ≤ vec_capacity out.new }
-    ensures reads_back { OnOk result (HasElement out.old.items out.new.items id (length text.now) (λ body. text_of body ≡ Ok text.now)) }
+    // and how it is read back
+    ensures reads_back { OnOk result (HasText out.old.items out.new.items id text.now) }
 {
-    let size = Size::Known(text.len() as u64);
-    out.reserve(head_len(id, size) + text.len())?;
-    write_head(out, id, size)?;
-    push_octets(out, text.as_bytes())
+    write_element(out, id, text.as_bytes())
 }

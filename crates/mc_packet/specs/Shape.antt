@@ -2,15 +2,25 @@
 use Rattle.std.specs.Prelude.{◌≡◌, ◌⊎◌, ℕ, ◌^◌, ◌<◌, ◌≤◌, Bool, ◌&&◌, List, [], ◌∷◌, length, sum_by, All, IsTrue, ℤ, pos, neg_ℤ, int_le, ⊤}
 use Rattle.std.specs.List.{AllByRecursion}
 use Rattle.mc_packet.specs.declared.packet.Packet.{Packet}
+use Rattle.mc_packet.specs.declared.packet.Pos.{Pos}
 use Rattle.mc_packet.specs.declared.walk.Chunk.{Chunk}
 
--- packets stand in order of their places, so that none stands twice: by block, and then by frame
+-- places are ordered by block, and then by frame
+abbrev pub IsPosBefore : Pos → Pos → Type 0
+IsPosBefore p q = (p.block < q.block) ⊎ ((p.block ≡ q.block) × (p.lane < q.lane))
+
+-- packets stand in order of their places, so that none stands twice
 abbrev pub StandsBefore : Packet → Packet → Type 0
-StandsBefore p q = (p.pos.block < q.pos.block) ⊎ ((p.pos.block ≡ q.pos.block) × (p.pos.lane < q.pos.lane))
+StandsBefore p q = IsPosBefore p.pos q.pos
 
 abbrev pub InOrder : List Packet → Type 0
 InOrder [] = ⊤
 InOrder (p ∷ ps) = AllByRecursion (StandsBefore p) ps × InOrder ps
+
+-- a place before the first of some packets
+abbrev pub IsBeforeFirst : Pos → List Packet → Type 0
+IsBeforeFirst p [] = ⊤
+IsBeforeFirst p (q ∷ qs) = IsPosBefore p q.pos
 
 -- packets of one track, whose number is not 0 and is coded in at most 8 octets
 abbrev pub AreOfOneTrack : List Packet → Type 0

@@ -6,13 +6,14 @@
 mod cache;
 mod checksum;
 mod choice;
+mod limits;
 mod packet;
-#[cfg(test)]
-mod tests;
+mod shape;
 mod walk;
 
 pub use cache::{CacheView, Heads, Limits, RangeView, RangeViews, Spans, Status};
 pub use checksum::sum;
 pub use choice::{Choice, Dir, Kind, Starts, TrackNo, Why};
+pub use limits::{FILM_LIMIT, LARGEST_BLOCK, LARGEST_HEADER};
 pub use packet::{NoMemory, Packet, Packets, Pos, weight};
 pub use walk::{Chunk, Ending, Fault, Level, Mark};

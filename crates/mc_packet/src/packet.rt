@@ -1,4 +1,5 @@
-ghost use Rattle.std.specs.Prelude.{◌≡◌, ◌+◌, ◌++◌, length, take, IfOk};
+ghost use Rattle.std.specs.Prelude.{◌≡◌, ◌↔◌, ◌+◌, IsTrue, length, IfOk};
+ghost use Rattle.mc_packet.specs.Shape.{IsPosBefore};
 
 use crate::choice::TrackNo;
 use bytes::Bytes;
@@ -12,8 +13,19 @@ pub type NoMemory = AllocError;
 /// block, counted from 0. Places are ordered by block, then by frame.
 #[derive(Clone, Copy, Debug, PartialEq, Eq, PartialOrd, Ord)]
 pub struct Pos {
+    /// The offset of the block element's ID, in octets from the file's start.
     pub block: u64,
+    /// The number of the frame in its block, below 256.
     pub lane: u16,
+}
+
+impl Pos {
+    /// Whether this place stands before another: the derived order is by block, and then by lane.
+    pub fn is_before(self, other: Pos) -> bool
+        ensures { IsTrue result ↔ IsPosBefore self other }
+    {
+        self < other
+    }
 }
 
 /// One frame of a track.
@@ -21,8 +33,9 @@ pub struct Pos {
 pub struct Packet {
     /// The TrackNumber of its track (RFC 9559, section 5.1.4.1.1).
     pub track: TrackNo,
+    /// Where in the film it stands.
     pub pos: Pos,
-    /// Its time in nanoseconds.
+    /// Its time in nanoseconds from the film's start, which may be negative.
     pub time: i64,
     /// Whether decoding can start here: it is frame 0 of a keyframe block.
     pub sync: bool,
@@ -45,6 +58,13 @@ impl Packet {
             key: self.key,
             body: self.body.clone()?,
         })
+    }
+
+    /// The octets of its payload.
+    pub fn octets(&self) -> &[u8]
+        ensures { result.now ≡ self.now.body }
+    {
+        self.body.as_slice()
     }
 }
 

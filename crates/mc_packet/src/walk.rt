@@ -45,15 +45,25 @@ pub enum Ending {
 /// (in units of the film's scale) and end may be known.
 #[derive(Clone, Copy, Debug, PartialEq, Eq)]
 pub enum Level {
+    /// Among the children of the Segment.
     Segment,
-    Cluster { time: Option<u64>, end: Option<u64> },
+    /// Among the children of a Cluster.
+    Cluster {
+        /// The Cluster's Timestamp, in units of the film's scale, once it was read
+        /// (RFC 9559, section 5.1.3.1).
+        time: Option<u64>,
+        /// The offset just past the Cluster, where its size is known.
+        end: Option<u64>,
+    },
 }
 
 /// A place from which a film can be read on. The one at offset 0 is the opening mark and stands
 /// for the Segment's first child.
 #[derive(Clone, Copy, Debug, PartialEq, Eq)]
 pub struct Mark {
+    /// The offset of an element, in octets from the file's start.
     pub pos: u64,
+    /// Where that element stands.
     pub level: Level,
 }
 
@@ -61,9 +71,13 @@ pub struct Mark {
 /// film's ending.
 #[derive(Debug, Drop)]
 pub struct Chunk {
+    /// The mark at which the part begins.
     pub from: Mark,
+    /// The mark at which the next part begins.
     pub to: Mark,
+    /// The packets of the block element that was read, none if it has none that count.
     pub packets: Packets,
+    /// How the film ends, where the part reaches its ending.
     pub ending: Option<Ending>,
 }
 

@@ -1,6 +1,4 @@
-use Rattle.std.proofs.Common.{arith, sym, ◌∙◌, length}
-use Rattle.std.specs.Prelude.{option_map}
-use Rattle.mc_block.specs.Group.{found_among, children_of}
+use Rattle.std.proofs.Common.{arith, ◌∙◌, length}
 use Rattle.mc_block.proofs.Found.{begins, goes_on, breaks, ends, is_done, kept}
 use Rattle.mc_block.proofs.group.read_children.Goals as goal
 

@@ -1,4 +1,4 @@
-use Rattle.std.proofs.Common.{ℕ, ◌∷◌, [], arith, sym, ◌∙◌, length, length-append, drop}
+use Rattle.std.proofs.Common.{◌∷◌, [], arith, length-append}
 use Rattle.mc_block.proofs.Laces.{goes_on}
 use Rattle.mc_block.proofs.sizes.coded_sizes.Goals as goal
 

@@ -1,6 +1,5 @@
-use Rattle.std.proofs.Common.{ℕ, List, ◌++◌, ◌≡◌, Ok, length, arith}
+use Rattle.std.proofs.Common.{ℕ, List, ◌++◌, ◌≡◌}
 use Rattle.std.proofs.lemmas.Result.{on_ok_weaker}
-use Rattle.mc_block.specs.Written.{HasPacket, plain_block}
 use Rattle.mc_block.proofs.Plain.{at_front, plain_packet}
 use Rattle.mc_block.proofs.write.push_block.Goals as goal
 

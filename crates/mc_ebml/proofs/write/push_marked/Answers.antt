@@ -1,4 +1,4 @@
-use Rattle.std.proofs.Common.{◌+◌, ◌*◌, ◌^◌, ◌<◌, arith}
+use Rattle.std.proofs.Common.{arith}
 use Rattle.mc_ebml.proofs.Marks.{marked_fits}
 use Rattle.mc_ebml.proofs.write.push_marked.Goals as goal
 

@@ -1,6 +1,6 @@
 use Rattle.std.proofs.Common.{◌++◌, ◌≡◌, rules}
 use Rattle.std.proofs.lemmas.Result.{on_ok_weaker}
-use Rattle.mc_ebml.specs.Written.{coded_octets, marked, coded_width}
+use Rattle.mc_ebml.specs.Written.{coded_octets, marked}
 use Rattle.mc_ebml.proofs.ReadBack.{coded_has}
 use Rattle.mc_ebml.proofs.write.write_coded.Goals as goal
 

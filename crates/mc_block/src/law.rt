@@ -1,0 +1,12 @@
+//! A law about what is written, for a crate that writes a film and proves how it is read.
+ghost use Rattle.mc_block.specs.Written.{PlainBlocksReadBack};
+
+use mc_ebml::written_parts;
+
+/// The body of an unlaced SimpleBlock is read back as its one packet, at each place where its time
+/// is in range.
+pub fn plain_blocks()
+    ensures { PlainBlocksReadBack }
+{
+    written_parts()
+}

@@ -40,6 +40,8 @@ impl<S: Shelf + Drop> Shelf for CountingShelf<S> {
 
     ghost short = { λ s. S.short s.inner };
 
+    ghost octets = { λ s. S.octets s.inner };
+
     fn open_file(&mut self, name: &str) -> Result<FileNo, ShelfError> {
         self.inner.open_file(name)
     }

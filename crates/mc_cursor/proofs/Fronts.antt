@@ -1,5 +1,5 @@
 -- The first octets of a film tell its EBML header.
-use Rattle.std.proofs.Common.{◌≡◌, ℕ, ◌+◌, ◌-◌, ◌≤◌, max, Bool, true, false, List, length, take, drop, Option, Result, Ok, Err, refl, sym, ap, ◌∙◌, arith, length-take, lit≤}
+use Rattle.std.proofs.Common.{◌≡◌, ℕ, ◌+◌, ◌-◌, ◌<◌, ◌≤◌, max, Bool, true, false, List, length, take, drop, Option, Result, Ok, Err, refl, sym, ap, ◌∙◌, arith, length-take, lit≤}
 use Rattle.std.proofs.lemmas.List.{take-take, drop-take, take_all}
 use Rattle.std.proofs.lemmas.Bool.{cond_both}
 use Rattle.std.proofs.lemmas.Bool.Decides.{nat_tests}
@@ -19,7 +19,7 @@ use Rattle.mc_tracks.specs.Header.{body_of, as_header, header_checked, ebml_head
 use Rattle.mc_tracks.specs.Ids.{EBML_HEADER}
 use Rattle.mc_cursor.specs.declared.reading.Found.{Found}
 use Rattle.mc_cursor.specs.declared.reading.Found.TheVariants as found
-use Rattle.mc_cursor.specs.Reads.{found_at, found_by, moved_by, Told}
+use Rattle.mc_cursor.specs.Reads.{found_at, found_by, moved_by, ends_before, Told}
 use Rattle.mc_cursor.specs.Begins.{header_span, Gives}
 use Rattle.mc_cursor.specs.declared.error.OpenError.{OpenError}
 use Rattle.mc_cursor.proofs.Heads.{head_window}
@@ -101,6 +101,44 @@ header_front octets m span = by_place octets m (0 == length octets) refl span
 
 pub header_read : (octets bytes : List ℕ) (m : ℕ) (f : Found) → m ≡ header_span f → f ≡ found_at octets 0 → bytes ≡ take m octets → ebml_header_of bytes ≡ ebml_header_of octets
 header_read octets bytes m f span at_start read = ap ebml_header_of read ∙ header_front octets m (span ∙ ap header_span at_start)
+
+-- ---- where it runs past the film
+
+cut_whole : (octets : List ℕ) (h : Head) (size : ℕ) (whole : Bool) → h.size ≡ Known size → nat_le (h.body + size) (length octets) ≡ whole → length octets < h.body + size
+    → header_by octets (length octets) (Ok h) ≡ Err NotEbml
+cut_whole octets h size true sized w short = absurd (grind (arith, nat_tests))
+cut_whole octets h size false sized w short = rw (sized, w) refl
+
+cut_known : (octets : List ℕ) (h : Head) (size : ℕ) (is : Bool) → h.size ≡ Known size → h.id == EBML_HEADER ≡ is → 12 < header_span (found_by (Ok h)) → length octets < header_span (found_by (Ok h))
+    → header_by octets (length octets) (Ok h) ≡ Err NotEbml
+cut_known octets h size true sized is long short =
+    let e : header_span (found_by (Ok h)) ≡ max 12 (h.body + size) = rw (is, sized) refl in
+    cut_whole octets h size (nat_le (h.body + size) (length octets)) sized refl (omega (arith, long, short, e))
+cut_known octets h size false sized isnt long short = let e : header_span (found_by (Ok h)) ≡ 12 = rw isnt refl in absurd (omega (arith, long, e))
+
+cut_sized : (octets : List ℕ) (h : Head) (size : Size) → h.size ≡ size → 12 < header_span (found_by (Ok h)) → length octets < header_span (found_by (Ok h))
+    → header_by octets (length octets) (Ok h) ≡ Err NotEbml
+cut_sized octets h Unknown sized long short = rw sized refl
+cut_sized octets h (Known size) sized long short = cut_known octets h size (h.id == EBML_HEADER) sized refl long short
+
+cut_headed : (octets : List ℕ) (head : Result Head EbmlError) → 12 < header_span (found_by head) → length octets < header_span (found_by head)
+    → header_by octets (length octets) head ≡ Err NotEbml
+cut_headed octets (Err e) long short = absurd (omega (arith, long))
+cut_headed octets (Ok h) long short = cut_sized octets h h.size refl long short
+
+cut_found : (octets : List ℕ) (at_end : Bool) → 0 == length octets ≡ at_end → 12 < header_span (found_at octets 0) → length octets < header_span (found_at octets 0)
+    → ebml_header_of octets ≡ Err NotEbml
+cut_found octets true at_end long short = let e : header_span (found_at octets 0) ≡ 12 = rw at_end refl in absurd (omega (arith, long, e))
+cut_found octets false at_end long short =
+    let one : found_at octets 0 ≡ found_by (head_at octets 0) = rw at_end refl in
+    header_join octets ∙ cut_headed octets (head_at octets 0) (rw one at long) (rw one at short)
+
+-- a header that ends behind the film is refused
+pub header_cut : (octets : List ℕ) (m : ℕ) (f : Found) → m ≡ header_span f → f ≡ found_at octets 0 → 4096 < m → ends_before octets m ≡ true → ebml_header_of octets ≡ Err NotEbml
+header_cut octets m f span at_start large cut =
+    let e : m ≡ header_span (found_at octets 0) = span ∙ ap header_span at_start in
+    let short : length octets < m = grind (arith, nat_tests) in
+    cut_found octets (0 == length octets) refl (omega (arith, large, e)) (omega (arith, short, e))
 
 -- ---- how far it reaches
 

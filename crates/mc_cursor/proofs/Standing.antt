@@ -11,7 +11,7 @@ use Rattle.mc_walk.proofs.Enough.{part-to}
 use Rattle.mc_walk.proofs.Joining.{mark-lies}
 use Rattle.mc_walk.proofs.Opened.{opened-lies}
 use Rattle.mc_cursor.specs.declared.cursor.Cursor.{Cursor}
-use Rattle.mc_cursor.specs.Standing.{plan_for, at_mark, StandsFor}
+use Rattle.mc_cursor.specs.Standing.{plan_for, at_mark, IsKnown, StandsFor}
 
 -- an offset that is the opening's or within the film
 place_within : (plan : Plan) (m : Mark) → plan.opening ≤ length plan.octets → m.pos ≤ length plan.octets → place_of plan m ≤ length plan.octets
@@ -22,9 +22,12 @@ part_within plan m opening within =
     let onward = part-to (steps plan) plan (place_of plan m) (level_of m) within in
     place_within plan (part_at plan m).to opening onward.1
 
+known_lies : (octets : List ℕ) (cursor : Cursor) → IsKnown octets cursor → (0 < cursor.opening) × (cursor.opening ≤ length octets)
+known_lies octets cursor known =
+    subst (λ (r : Result Plan Refused). IfOk r (λ plan. (0 < plan.opening) × (plan.opening ≤ length plan.octets))) known (opened-lies octets)
+
 pub opening_lies : (octets : List ℕ) (cursor : Cursor) → StandsFor octets cursor → (0 < cursor.opening) × (cursor.opening ≤ length octets)
-opening_lies octets cursor stands =
-    subst (λ (r : Result Plan Refused). IfOk r (λ plan. (0 < plan.opening) × (plan.opening ≤ length plan.octets))) stands.opened (opened-lies octets)
+opening_lies octets cursor stands = known_lies octets cursor stands.opened
 
 opening_within : (octets : List ℕ) (cursor : Cursor) → StandsFor octets cursor → cursor.opening ≤ length octets
 opening_within octets cursor stands = (opening_lies octets cursor stands).1
@@ -37,9 +40,9 @@ stands_after octets cursor to stands is = record {
   within = rw is (part_within (plan_for octets cursor) cursor.mark (opening_within octets cursor stands) stands.within);
 }
 
--- and at each mark
-pub stands_at_mark : (octets : List ℕ) (cursor : Cursor) (m : Mark) → StandsFor octets cursor → IsMark (plan_for octets cursor) m → StandsFor octets (at_mark cursor m)
-stands_at_mark octets cursor m stands is = record {
-  opened = stands.opened;
-  within = mark-lies (plan_for octets cursor) m (opening_within octets cursor stands) is;
+-- and at each mark, wherever it stood before
+pub stands_at_mark : (octets : List ℕ) (cursor : Cursor) (m : Mark) → IsKnown octets cursor → IsMark (plan_for octets cursor) m → StandsFor octets (at_mark cursor m)
+stands_at_mark octets cursor m known is = record {
+  opened = known;
+  within = mark-lies (plan_for octets cursor) m (known_lies octets cursor known).1 is;
 }

@@ -15,3 +15,7 @@ pub record Keeps (files files' : Option Files) (opened opened' : Opened) (reach 
   pub same_files : files' ≡ files
   pub same_opened : opened' ≡ opened
   pub further : reach ≤ reach'
+
+-- A shelf, whose members are named once, was only read.
+abbrev pub OnlyReads : {S : Type 0} → (S → Option Files) → (S → Opened) → (S → ℕ) → S → S → Type 0
+OnlyReads files opened reach old new = Keeps (files old) (files new) (opened old) (opened new) (reach old) (reach new)

@@ -3,12 +3,17 @@ use Rattle.std.specs.Prelude.{◌≡◌, ℕ, ◌+◌, ◌^◌, ◌<◌, ⊤, []
 use Rattle.mc_ebml.specs.declared.read.Head.{Head}
 use Rattle.mc_ebml.specs.declared.read.EbmlError.{EbmlError}
 use Rattle.mc_ebml.specs.Element.{head_at, IsSmall}
+use Rattle.mc_outside.specs.Shelf.{Files, Opened, content_of}
 use Rattle.mc_cursor.specs.declared.reading.Found.{Found}
 use Rattle.mc_cursor.specs.declared.reading.Found.TheVariants as found
 
 -- a fact of the octets of a file, where they are told
 abbrev pub Told : Option (List ℕ) → (List ℕ → Type 0) → Type 0
 Told content fact = (octets : List ℕ) → content ≡ Some octets → fact octets
+
+-- the same of an opened file of a shelf, whose members are named once
+abbrev pub InFile : {S : Type 0} → (S → Option Files) → (S → Opened) → S → ℕ → (List ℕ → Type 0) → Type 0
+InFile files opened shelf file fact = Told (content_of files opened shelf file) fact
 
 -- a head that was read by itself, at a place of a film
 abbrev pub moved_by : ℕ → Result Head EbmlError → Result Head EbmlError

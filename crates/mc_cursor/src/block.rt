@@ -1,13 +1,13 @@
 ghost use Rattle.std.specs.Prelude.{◌≡◌, ◌+◌, ◌-◌, ◌<◌, ◌≤◌, length, Err, IfOk};
 ghost use Rattle.mc_outside.specs.Causes.{HasCause};
-ghost use Rattle.mc_outside.specs.Shelf.{KeepsRead, content};
+ghost use Rattle.mc_outside.specs.Shelf.{OnlyReadsTo};
 ghost use Rattle.mc_packet.specs.Shape.{AreBetween};
 ghost use Rattle.mc_walk.specs.Blocks.{block_element_of};
 ghost use Rattle.mc_walk.specs.Glances.{first_mark};
 ghost use Rattle.mc_walk.specs.Walk.{time_of};
 ghost use Rattle.mc_cursor.specs.Causes.{ReadCause};
 ghost use Rattle.mc_cursor.specs.Heads.{mark_taken, Glanced};
-ghost use Rattle.mc_cursor.specs.Reads.{Told};
+ghost use Rattle.mc_cursor.specs.Reads.{InFile};
 ghost use Rattle.mc_cursor.specs.Standing.{plan_for};
 ghost use Rattle.mc_cursor.specs.Steps.{IsBlock, or_damaged, taken_of};
 
@@ -60,7 +60,9 @@ impl Cursor {
         block: Unread,
         body: &Bytes,
     ) -> Result<Result<Packets, Ending>, NoMemory>
-        ensures value { IfOk result (λ r. r ≡ or_damaged place (block_element_of self.now.tracks self.now.scale place (time_of block.level) block.role body.now)) }
+        ensures value { IfOk result (λ r. r
+            ≡ or_damaged place (block_element_of self.now.tracks self.now.scale place
+            (time_of block.level) block.role body.now)) }
         ensures law { IfOk result (λ r. IfOk r (AreBetween place (place + 1))) }
     {
         match block_element(
@@ -88,9 +90,11 @@ impl Cursor {
     ) -> Result<Ending, ReadFault>
         requires large { block.at + 67108864 < block.stop }
         requires role { IsBlock block.role }
-        ensures value { IfOk result (λ e. Told (content (S.files shelf.old) (S.opened shelf.old) self.now.file.0) (λ octets. block.at ≤ length octets → taken_of (plan_for octets self.now) place block ≡ Err e)) }
+        ensures value { IfOk result (λ e. InFile S.files S.opened shelf.old self.now.file.0
+            (λ octets. block.at ≤ length octets
+            → taken_of (plan_for octets self.now) place block ≡ Err e)) }
         ensures cause { HasCause (S.faults shelf.old) (S.faults shelf.new) result }
-        ensures kept { KeepsRead (S.files shelf.old) (S.files shelf.new) (S.opened shelf.old) (S.opened shelf.new) (S.reach shelf.old) (S.reach shelf.new) block.stop }
+        ensures kept { OnlyReadsTo S.files S.opened S.reach shelf.old shelf.new block.stop }
     {
         if read_ends_before(shelf, self.file, block.at, block.stop)? {
             Ok(Ending::Cut(place))
@@ -108,10 +112,12 @@ impl Cursor {
         block: Unread,
     ) -> Result<Result<Packets, Ending>, CursorError>
         requires { (place < block.at) × (block.at ≤ block.stop) × IsBlock block.role }
-        ensures value { IfOk result (λ r. Told (content (S.files shelf.old) (S.opened shelf.old) self.now.file.0) (λ octets. block.at ≤ length octets → r ≡ taken_of (plan_for octets self.now) place block)) }
+        ensures value { IfOk result (λ r. InFile S.files S.opened shelf.old self.now.file.0
+            (λ octets. block.at ≤ length octets
+            → r ≡ taken_of (plan_for octets self.now) place block)) }
         ensures law { IfOk result (λ r. IfOk r (AreBetween place (place + 1))) }
         ensures cause { ReadCause (S.faults shelf.old) (S.faults shelf.new) result }
-        ensures kept { KeepsRead (S.files shelf.old) (S.files shelf.new) (S.opened shelf.old) (S.opened shelf.new) (S.reach shelf.old) (S.reach shelf.new) block.stop }
+        ensures kept { OnlyReadsTo S.files S.opened S.reach shelf.old shelf.new block.stop }
     {
         if block.stop - block.at > LARGEST {
             return Ok(Err(self.refuse_block(shelf, place, block)?));
@@ -130,9 +136,11 @@ impl Cursor {
         block: Unread,
     ) -> Result<Result<Option<BlockMark>, Ending>, CursorError>
         requires { (place < block.at) × (block.at ≤ block.stop) × IsBlock block.role }
-        ensures value { IfOk result (λ r. Told (content (S.files shelf.old) (S.opened shelf.old) self.now.file.0) (λ octets. block.at ≤ length octets → r ≡ mark_taken (taken_of (plan_for octets self.now) place block))) }
+        ensures value { IfOk result (λ r. InFile S.files S.opened shelf.old self.now.file.0
+            (λ octets. block.at ≤ length octets
+            → r ≡ mark_taken (taken_of (plan_for octets self.now) place block))) }
         ensures cause { ReadCause (S.faults shelf.old) (S.faults shelf.new) result }
-        ensures kept { KeepsRead (S.files shelf.old) (S.files shelf.new) (S.opened shelf.old) (S.opened shelf.new) (S.reach shelf.old) (S.reach shelf.new) block.stop }
+        ensures kept { OnlyReadsTo S.files S.opened S.reach shelf.old shelf.new block.stop }
     {
         Ok(mark_of(self.read_block(shelf, place, block)?))
     }
@@ -146,9 +154,11 @@ impl Cursor {
     ) -> Result<Result<Glance, Ending>, ReadFault>
         requires order { (block.at ≤ block.stop) × (block.stop ≤ block.at + 67108864) }
         requires role { block.role ≡ Role.SimpleBlock }
-        ensures value { IfOk result (λ r. Told (content (S.files shelf.old) (S.opened shelf.old) self.now.file.0) (λ octets. block.at ≤ length octets → Glanced place r (mark_taken (taken_of (plan_for octets self.now) place block)))) }
+        ensures value { IfOk result (λ r. InFile S.files S.opened shelf.old self.now.file.0
+            (λ octets. block.at ≤ length octets
+            → Glanced place r (mark_taken (taken_of (plan_for octets self.now) place block)))) }
         ensures cause { HasCause (S.faults shelf.old) (S.faults shelf.new) result }
-        ensures kept { KeepsRead (S.files shelf.old) (S.files shelf.new) (S.opened shelf.old) (S.opened shelf.new) (S.reach shelf.old) (S.reach shelf.new) block.stop }
+        ensures kept { OnlyReadsTo S.files S.opened S.reach shelf.old shelf.new block.stop }
     {
         let size = (block.stop - block.at).min(FRONT);
         let mut octets = [0u8; 12];
@@ -170,11 +180,14 @@ impl Cursor {
         place: u64,
         block: Unread,
     ) -> Result<Result<Option<BlockMark>, Ending>, CursorError>
-        requires order { (place < block.at) × (block.at ≤ block.stop) × (block.stop ≤ block.at + 67108864) }
+        requires order { (place < block.at) × (block.at ≤ block.stop)
+            × (block.stop ≤ block.at + 67108864) }
         requires role { block.role ≡ Role.SimpleBlock }
-        ensures value { IfOk result (λ r. Told (content (S.files shelf.old) (S.opened shelf.old) self.now.file.0) (λ octets. block.at ≤ length octets → r ≡ mark_taken (taken_of (plan_for octets self.now) place block))) }
+        ensures value { IfOk result (λ r. InFile S.files S.opened shelf.old self.now.file.0
+            (λ octets. block.at ≤ length octets
+            → r ≡ mark_taken (taken_of (plan_for octets self.now) place block))) }
         ensures cause { ReadCause (S.faults shelf.old) (S.faults shelf.new) result }
-        ensures kept { KeepsRead (S.files shelf.old) (S.files shelf.new) (S.opened shelf.old) (S.opened shelf.new) (S.reach shelf.old) (S.reach shelf.new) block.stop }
+        ensures kept { OnlyReadsTo S.files S.opened S.reach shelf.old shelf.new block.stop }
     {
         match self.read_glance(shelf, place, block)? {
             Err(ending) => Ok(Err(ending)),
@@ -194,9 +207,11 @@ impl Cursor {
         block: Unread,
     ) -> Result<Result<Option<BlockMark>, Ending>, CursorError>
         requires { (place < block.at) × (block.at ≤ block.stop) × IsBlock block.role }
-        ensures value { IfOk result (λ r. Told (content (S.files shelf.old) (S.opened shelf.old) self.now.file.0) (λ octets. block.at ≤ length octets → r ≡ mark_taken (taken_of (plan_for octets self.now) place block))) }
+        ensures value { IfOk result (λ r. InFile S.files S.opened shelf.old self.now.file.0
+            (λ octets. block.at ≤ length octets
+            → r ≡ mark_taken (taken_of (plan_for octets self.now) place block))) }
         ensures cause { ReadCause (S.faults shelf.old) (S.faults shelf.new) result }
-        ensures kept { KeepsRead (S.files shelf.old) (S.files shelf.new) (S.opened shelf.old) (S.opened shelf.new) (S.reach shelf.old) (S.reach shelf.new) block.stop }
+        ensures kept { OnlyReadsTo S.files S.opened S.reach shelf.old shelf.new block.stop }
     {
         if block.stop - block.at > LARGEST {
             return Ok(Err(self.refuse_block(shelf, place, block)?));

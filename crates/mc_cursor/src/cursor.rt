@@ -1,11 +1,9 @@
 ghost use Rattle.std.specs.Prelude.{◌≡◌, ◌+◌, ◌<◌, ◌≤◌, max, ℕ, List, [], length, Some, None, IfOk, OnErr};
 ghost use Rattle.std.proofs.Props.{props};
-ghost use Rattle.mc_outside.specs.Shelf.{content};
 ghost use Rattle.mc_packet.specs.Shape.{AreBetween, HasShape};
 ghost use Rattle.mc_tracks.specs.TrackList.{IsTrackList};
-ghost use Rattle.mc_walk.specs.Parts.{level_of, part_at, chunk_of, chunk_at, IsMark};
-ghost use Rattle.mc_cursor.specs.Causes.{ReadCause, Keeps};
-ghost use Rattle.mc_cursor.specs.Reads.{Told};
+ghost use Rattle.mc_walk.specs.Parts.{level_of, chunk_of, IsMark};
+ghost use Rattle.mc_cursor.specs.Causes.{ReadCause, OnlyReads};
 
 use crate::error::CursorError;
 use crate::head::HeadChunk;
@@ -38,7 +36,7 @@ pub struct Cursor {
 
 impl Cursor {
     ghost use Rattle.mc_cursor.specs.Heads.{head_chunk_of, part_by, head_by, BlockIsMark};
-    ghost use Rattle.mc_cursor.specs.Standing.{plan_for, StandsFor, start_of, tracks_of, scale_of, mark_of, file_of, at_mark, ReadsPart};
+    ghost use Rattle.mc_cursor.specs.Standing.{plan_for, IsKnown, OnFilm, StandsFor, start_of, tracks_of, scale_of, mark_of, at_mark, next_of, ReadsNext};
 
     /// The film's tracks: at most 64, whose numbers differ and are not 0, with texts of at most
     /// 65,536 octets without a zero octet, whatever the shelf gives.
@@ -64,11 +62,13 @@ impl Cursor {
         self.mark
     }
 
-    /// Stands at another mark. The cursor stands for the same films as before, where the mark is one
-    /// of theirs; else nothing is known of what it reads, but that its calls end.
+    /// Stands at another mark. The cursor stands for each film that opens with what it knows, where
+    /// the mark is one of that film, also if it stood outside before. Elsewhere nothing is known of
+    /// what it reads, but that its calls end.
     pub fn goto(&mut self, mark: Mark)
         ensures value { self.new ≡ at_mark self.old mark }
-        ensures stands { (octets : List ℕ) → StandsFor octets self.old → IsMark (plan_for octets self.old) mark → StandsFor octets self.new }
+        ensures stands { (octets : List ℕ) → IsKnown octets self.old
+            → IsMark (plan_for octets self.old) mark → StandsFor octets self.new }
     {
         self.mark = mark;
     }
@@ -82,13 +82,16 @@ impl Cursor {
     /// chunk has its shape: at most 256 packets of one track, in order and between its marks, with
     /// payloads of at most 67,108,864 octets together.
     pub fn next_chunk<S: Shelf>(&mut self, shelf: &mut S) -> Result<Chunk, CursorError>
-        ensures value { IfOk result (λ k. Told (content (S.files shelf.old) (S.opened shelf.old) (file_of self.old)) (λ octets. StandsFor octets self.old → (k ≡ chunk_at (plan_for octets self.old) (mark_of self.old)) × StandsFor octets self.new)) }
-        ensures moves { IfOk result (λ k. (k.from ≡ mark_of self.old) × (self.new ≡ at_mark self.old k.to)) }
+        ensures value { IfOk result (λ k. OnFilm S.files S.opened shelf.old self.old
+            (λ octets. (k ≡ next_of octets self.old) × StandsFor octets self.new)) }
+        ensures moves { IfOk result (λ k. (k.from ≡ mark_of self.old)
+            × (self.new ≡ at_mark self.old k.to)) }
         ensures shape { IfOk result HasShape }
         ensures err { OnErr result (self.new ≡ self.old) }
         ensures cause { ReadCause (S.faults shelf.old) (S.faults shelf.new) result }
-        ensures kept { Keeps (S.files shelf.old) (S.files shelf.new) (S.opened shelf.old) (S.opened shelf.new) (S.reach shelf.old) (S.reach shelf.new) }
-        ensures reach { Told (content (S.files shelf.old) (S.opened shelf.old) (file_of self.old)) (λ octets. StandsFor octets self.old → ReadsPart (part_at (plan_for octets self.old) (mark_of self.old)) (S.reach shelf.old) (S.reach shelf.new)) }
+        ensures kept { OnlyReads S.files S.opened S.reach shelf.old shelf.new }
+        ensures reach { OnFilm S.files S.opened shelf.old self.old
+            (λ octets. ReadsNext octets self.old (S.reach shelf.old) (S.reach shelf.new)) }
     {
         let chunk = self.read_chunk(shelf)?;
         self.mark = chunk.to;
@@ -103,14 +106,19 @@ impl Cursor {
     /// From the block's offset, at the level of the chunk's end, the same part is read again: that is
     /// a mark of the film.
     pub fn next_head<S: Shelf>(&mut self, shelf: &mut S) -> Result<HeadChunk, CursorError>
-        ensures value { IfOk result (λ k. Told (content (S.files shelf.old) (S.opened shelf.old) (file_of self.old)) (λ octets. StandsFor octets self.old → (k ≡ head_chunk_of (chunk_at (plan_for octets self.old) (mark_of self.old))) × StandsFor octets self.new)) }
-        ensures marks { IfOk result (λ k. Told (content (S.files shelf.old) (S.opened shelf.old) (file_of self.old)) (λ octets. StandsFor octets self.old → IsMark (plan_for octets self.old) (mark_of self.old) → BlockIsMark (plan_for octets self.old) k)) }
-        ensures moves { IfOk result (λ k. (k.from ≡ mark_of self.old) × (self.new ≡ at_mark self.old k.to)) }
+        ensures value { IfOk result (λ k. OnFilm S.files S.opened shelf.old self.old
+            (λ octets. (k ≡ head_chunk_of (next_of octets self.old)) × StandsFor octets self.new)) }
+        ensures marks { IfOk result (λ k. OnFilm S.files S.opened shelf.old self.old
+            (λ octets. IsMark (plan_for octets self.old) (mark_of self.old)
+            → BlockIsMark (plan_for octets self.old) k)) }
+        ensures moves { IfOk result (λ k. (k.from ≡ mark_of self.old)
+            × (self.new ≡ at_mark self.old k.to)) }
         ensures onward { IfOk result (λ k. k.ending ≡ None → k.from.pos < k.to.pos) }
         ensures err { OnErr result (self.new ≡ self.old) }
         ensures cause { ReadCause (S.faults shelf.old) (S.faults shelf.new) result }
-        ensures kept { Keeps (S.files shelf.old) (S.files shelf.new) (S.opened shelf.old) (S.opened shelf.new) (S.reach shelf.old) (S.reach shelf.new) }
-        ensures reach { Told (content (S.files shelf.old) (S.opened shelf.old) (file_of self.old)) (λ octets. StandsFor octets self.old → ReadsPart (part_at (plan_for octets self.old) (mark_of self.old)) (S.reach shelf.old) (S.reach shelf.new)) }
+        ensures kept { OnlyReads S.files S.opened S.reach shelf.old shelf.new }
+        ensures reach { OnFilm S.files S.opened shelf.old self.old
+            (λ octets. ReadsNext octets self.old (S.reach shelf.old) (S.reach shelf.new)) }
     {
         let head = self.read_head_chunk(shelf)?;
         self.mark = head.to;
@@ -142,12 +150,14 @@ impl Cursor {
 
     // The part from the cursor's mark on.
     fn read_chunk<S: Shelf>(&self, shelf: &mut S) -> Result<Chunk, CursorError>
-        ensures value { IfOk result (λ k. Told (content (S.files shelf.old) (S.opened shelf.old) self.now.file.0) (λ octets. StandsFor octets self.now → k ≡ chunk_at (plan_for octets self.now) self.now.mark)) }
+        ensures value { IfOk result (λ k. OnFilm S.files S.opened shelf.old self.now
+            (λ octets. k ≡ next_of octets self.now)) }
         ensures bounds { IfOk result (λ k. (k.from ≡ self.now.mark) × (0 < k.to.pos)) }
         ensures shape { IfOk result HasShape }
         ensures cause { ReadCause (S.faults shelf.old) (S.faults shelf.new) result }
-        ensures kept { Keeps (S.files shelf.old) (S.files shelf.new) (S.opened shelf.old) (S.opened shelf.new) (S.reach shelf.old) (S.reach shelf.new) }
-        ensures reach { Told (content (S.files shelf.old) (S.opened shelf.old) self.now.file.0) (λ octets. StandsFor octets self.now → ReadsPart (part_at (plan_for octets self.now) self.now.mark) (S.reach shelf.old) (S.reach shelf.new)) }
+        ensures kept { OnlyReads S.files S.opened S.reach shelf.old shelf.new }
+        ensures reach { OnFilm S.files S.opened shelf.old self.now
+            (λ octets. ReadsNext octets self.now (S.reach shelf.old) (S.reach shelf.new)) }
     {
         let (at, next) = self.find_next(shelf)?;
         match next {
@@ -161,12 +171,14 @@ impl Cursor {
 
     // The same without its payloads.
     fn read_head_chunk<S: Shelf>(&self, shelf: &mut S) -> Result<HeadChunk, CursorError>
-        ensures value { IfOk result (λ k. Told (content (S.files shelf.old) (S.opened shelf.old) self.now.file.0) (λ octets. StandsFor octets self.now → k ≡ head_chunk_of (chunk_at (plan_for octets self.now) self.now.mark))) }
+        ensures value { IfOk result (λ k. OnFilm S.files S.opened shelf.old self.now
+            (λ octets. k ≡ head_chunk_of (next_of octets self.now))) }
         ensures bounds { IfOk result (λ k. (k.from ≡ self.now.mark) × (0 < k.to.pos)) }
         ensures onward { IfOk result (λ k. k.ending ≡ None → k.from.pos < k.to.pos) }
         ensures cause { ReadCause (S.faults shelf.old) (S.faults shelf.new) result }
-        ensures kept { Keeps (S.files shelf.old) (S.files shelf.new) (S.opened shelf.old) (S.opened shelf.new) (S.reach shelf.old) (S.reach shelf.new) }
-        ensures reach { Told (content (S.files shelf.old) (S.opened shelf.old) self.now.file.0) (λ octets. StandsFor octets self.now → ReadsPart (part_at (plan_for octets self.now) self.now.mark) (S.reach shelf.old) (S.reach shelf.new)) }
+        ensures kept { OnlyReads S.files S.opened S.reach shelf.old shelf.new }
+        ensures reach { OnFilm S.files S.opened shelf.old self.now
+            (λ octets. ReadsNext octets self.now (S.reach shelf.old) (S.reach shelf.new)) }
     {
         let (at, next) = self.find_next(shelf)?;
         match next {
@@ -180,7 +192,8 @@ impl Cursor {
 
     // The chunk that ends at the film's ending.
     fn last_chunk(&self, at: Mark, ending: Ending) -> Chunk
-        ensures value { result ≡ record { from = self.now.mark; to = at; packets = []; ending = Some ending } }
+        ensures value { result
+            ≡ record { from = self.now.mark; to = at; packets = []; ending = Some ending } }
         ensures shape { HasShape result }
     {
         Chunk {
@@ -214,7 +227,8 @@ impl Cursor {
     }
 
     fn last_head(&self, at: Mark, ending: Ending) -> HeadChunk
-        ensures { result ≡ record { from = self.now.mark; to = at; block = None; ending = Some ending } }
+        ensures { result
+            ≡ record { from = self.now.mark; to = at; block = None; ending = Some ending } }
     {
         HeadChunk {
             from: self.mark,

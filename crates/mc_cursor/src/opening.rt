@@ -1,7 +1,6 @@
 ghost use Rattle.std.specs.Prelude.{◌≡◌, ◌≢◌, ◌+◌, ◌-◌, ◌^◌, ◌<◌, ◌≤◌, max, length, slice_range, Option, Some, None, Ok, IsErrOf, IfOk, IfSome};
 ghost use Rattle.mc_ebml.specs.Element.{IsSmall};
 ghost use Rattle.mc_outside.specs.Causes.{HasCause};
-ghost use Rattle.mc_outside.specs.Shelf.{content};
 ghost use Rattle.mc_tracks.specs.Children.{element_at, whole_element};
 ghost use Rattle.mc_cursor.specs.declared.reading.Found.TheVariants as found;
 ghost use Rattle.mc_tracks.specs.Header.{ebml_header_of, info_of, tracks_of};
@@ -10,13 +9,13 @@ ghost use Rattle.mc_walk.specs.Opening.{end_by, segment_of, before_cluster, segm
 ghost use Rattle.mc_walk.specs.Parts.{opening_mark};
 ghost use Rattle.mc_walk.specs.Walk.{stands_at};
 ghost use Rattle.mc_cursor.specs.Standing.{mark_of, file_of};
-ghost use Rattle.mc_cursor.specs.Causes.{Keeps};
-ghost use Rattle.mc_cursor.specs.Reads.{Told, Lies, found_at};
+ghost use Rattle.mc_cursor.specs.Causes.{OnlyReads};
+ghost use Rattle.mc_cursor.specs.Reads.{InFile, Lies, found_at};
 ghost use Rattle.mc_cursor.specs.Begins.{BeginCause, Begins, Gives, header_span, stop_of, FoundIn, head_in, whole_found, stop_by, header_end, segment_for, ReadsUnder};
 
 use crate::cursor::Cursor;
 use crate::error::OpenError;
-use crate::reading::{Found, read_ends_before, read_found, read_front, read_part};
+use crate::reading::{Found, read_ends_before, read_found, read_front, read_lacks, read_part};
 use mc_ebml::{Head, Size};
 use mc_outside::{FileNo, ReadFault, Shelf};
 use mc_packet::{Level, Mark};
@@ -52,20 +51,28 @@ fn header_in(front: &[u8]) -> Result<usize, OpenError>
     Ok(parse_ebml_header(front)?)
 }
 
-/// The offset behind the EBML header.
+/// The offset behind the EBML header. A large one is given memory only where the film has its last
+/// octet.
 pub(crate) fn read_ebml_header<S: Shelf>(
     alloc: Global,
     shelf: &mut S,
     file: FileNo,
 ) -> Result<usize, OpenError>
-    ensures value { Told (content (S.files shelf.old) (S.opened shelf.old) file.0) (λ octets. Gives result (ebml_header_of octets)) }
-    ensures within { Told (content (S.files shelf.old) (S.opened shelf.old) file.0) (λ octets. IfOk result (λ n. n ≤ length octets)) }
-    ensures near { IfOk result (λ n. Told (content (S.files shelf.old) (S.opened shelf.old) file.0) (λ octets. S.reach shelf.new ≤ max (S.reach shelf.old) (max 12 n))) }
+    ensures value { InFile S.files S.opened shelf.old file.0
+        (λ octets. Gives result (ebml_header_of octets)) }
+    ensures within { InFile S.files S.opened shelf.old file.0
+        (λ octets. IfOk result (λ n. n ≤ length octets)) }
+    ensures near { IfOk result (λ n. InFile S.files S.opened shelf.old file.0
+        (λ octets. S.reach shelf.new ≤ max (S.reach shelf.old) (max 12 n))) }
     ensures cause { BeginCause (S.faults shelf.old) (S.faults shelf.new) result }
-    ensures kept { Keeps (S.files shelf.old) (S.files shelf.new) (S.opened shelf.old) (S.opened shelf.new) (S.reach shelf.old) (S.reach shelf.new) }
+    ensures kept { OnlyReads S.files S.opened S.reach shelf.old shelf.new }
 {
     let found = read_found(shelf, file, 0)?;
-    let front = read_front(alloc, shelf, file, header_size(found))?;
+    let size = header_size(found);
+    if read_lacks(shelf, file, 0, size)? {
+        return Err(OpenError::Refused(Refused::NotEbml));
+    }
+    let front = read_front(alloc, shelf, file, size)?;
     header_in(front.as_slice())
 }
 
@@ -89,11 +96,14 @@ fn read_whole<S: Shelf>(
     head: Head,
 ) -> Result<Option<Child>, ReadFault>
     requires { Lies place (found.Element head) }
-    ensures value { IfOk result (λ c. Told (content (S.files shelf.old) (S.opened shelf.old) file.0) (λ octets. head.body ≤ length octets → c ≡ whole_element (length octets) place (Ok head))) }
-    ensures order { IfOk result (λ c. IfSome c (λ x. (x.place ≡ place) × (place < x.at) × (x.at ≤ x.stop))) }
-    ensures near { IfOk result (λ c. IfSome c (λ x. S.reach shelf.new ≤ max (S.reach shelf.old) x.stop)) }
+    ensures value { IfOk result (λ c. InFile S.files S.opened shelf.old file.0
+        (λ octets. head.body ≤ length octets → c ≡ whole_element (length octets) place (Ok head))) }
+    ensures order { IfOk result (λ c. IfSome c
+        (λ x. (x.place ≡ place) × (place < x.at) × (x.at ≤ x.stop))) }
+    ensures near { IfOk result (λ c. IfSome c
+        (λ x. S.reach shelf.new ≤ max (S.reach shelf.old) x.stop)) }
     ensures cause { HasCause (S.faults shelf.old) (S.faults shelf.new) result }
-    ensures kept { Keeps (S.files shelf.old) (S.files shelf.new) (S.opened shelf.old) (S.opened shelf.new) (S.reach shelf.old) (S.reach shelf.new) }
+    ensures kept { OnlyReads S.files S.opened S.reach shelf.old shelf.new }
 {
     let Some(stop) = end_of(head.body, head.size) else {
         return Ok(None);
@@ -117,11 +127,14 @@ fn read_element_at<S: Shelf>(
     found: Found,
 ) -> Result<Option<Child>, ReadFault>
     requires { Lies place found }
-    ensures value { IfOk result (λ c. Told (content (S.files shelf.old) (S.opened shelf.old) file.0) (λ octets. FoundIn (length octets) found → c ≡ whole_found (length octets) place found)) }
-    ensures order { IfOk result (λ c. IfSome c (λ x. (x.place ≡ place) × (place < x.at) × (x.at ≤ x.stop))) }
-    ensures near { IfOk result (λ c. IfSome c (λ x. S.reach shelf.new ≤ max (S.reach shelf.old) x.stop)) }
+    ensures value { IfOk result (λ c. InFile S.files S.opened shelf.old file.0
+        (λ octets. FoundIn (length octets) found → c ≡ whole_found (length octets) place found)) }
+    ensures order { IfOk result (λ c. IfSome c
+        (λ x. (x.place ≡ place) × (place < x.at) × (x.at ≤ x.stop))) }
+    ensures near { IfOk result (λ c. IfSome c
+        (λ x. S.reach shelf.new ≤ max (S.reach shelf.old) x.stop)) }
     ensures cause { HasCause (S.faults shelf.old) (S.faults shelf.new) result }
-    ensures kept { Keeps (S.files shelf.old) (S.files shelf.new) (S.opened shelf.old) (S.opened shelf.new) (S.reach shelf.old) (S.reach shelf.new) }
+    ensures kept { OnlyReads S.files S.opened S.reach shelf.old shelf.new }
 {
     match found {
         Found::Element(head) => read_whole(shelf, file, place, head),
@@ -144,13 +157,15 @@ pub(crate) fn find_segment<S: Shelf>(
     file: FileNo,
     from: u64,
 ) -> Result<Segment, OpenError>
-    ensures value { Told (content (S.files shelf.old) (S.opened shelf.old) file.0) (λ octets. from ≤ length octets → Gives result (segment_of octets from)) }
-    ensures within { Told (content (S.files shelf.old) (S.opened shelf.old) file.0) (λ octets. from ≤ length octets → IfOk result (λ s. s.opening ≤ length octets)) }
+    ensures value { InFile S.files S.opened shelf.old file.0
+        (λ octets. from ≤ length octets → Gives result (segment_of octets from)) }
+    ensures within { InFile S.files S.opened shelf.old file.0
+        (λ octets. from ≤ length octets → IfOk result (λ s. s.opening ≤ length octets)) }
     ensures behind { IfOk result (λ s. 0 < s.opening) }
     ensures onward { IfOk result (λ s. from < s.opening) }
     ensures near { IfOk result (λ s. S.reach shelf.new ≤ max (S.reach shelf.old) (s.opening + 12)) }
     ensures cause { BeginCause (S.faults shelf.old) (S.faults shelf.new) result }
-    ensures kept { Keeps (S.files shelf.old) (S.files shelf.new) (S.opened shelf.old) (S.opened shelf.new) (S.reach shelf.old) (S.reach shelf.new) }
+    ensures kept { OnlyReads S.files S.opened S.reach shelf.old shelf.new }
 {
     let mut place = from;
     loop {
@@ -187,11 +202,13 @@ fn read_segment_child<S: Shelf>(
     end: Option<u64>,
     place: u64,
 ) -> Result<Option<Child>, ReadFault>
-    ensures value { IfOk result (λ c. Told (content (S.files shelf.old) (S.opened shelf.old) file.0) (λ octets. place ≤ length octets → c ≡ segment_child octets end place)) }
-    ensures order { IfOk result (λ c. IfSome c (λ x. (x.place ≡ place) × (place < x.at) × (x.at ≤ x.stop))) }
+    ensures value { IfOk result (λ c. InFile S.files S.opened shelf.old file.0
+        (λ octets. place ≤ length octets → c ≡ segment_child octets end place)) }
+    ensures order { IfOk result (λ c. IfSome c
+        (λ x. (x.place ≡ place) × (place < x.at) × (x.at ≤ x.stop))) }
     ensures near { IfOk result (ReadsUnder (S.reach shelf.old) (S.reach shelf.new)) }
     ensures cause { HasCause (S.faults shelf.old) (S.faults shelf.new) result }
-    ensures kept { Keeps (S.files shelf.old) (S.files shelf.new) (S.opened shelf.old) (S.opened shelf.new) (S.reach shelf.old) (S.reach shelf.new) }
+    ensures kept { OnlyReads S.files S.opened S.reach shelf.old shelf.new }
 {
     if is_end(end, place) {
         return Ok(None);
@@ -221,12 +238,13 @@ fn find_first<S: Shelf>(
     segment: Segment,
     id: u32,
 ) -> Result<Option<Child>, ReadFault>
-    ensures value { IfOk result (λ c. Told (content (S.files shelf.old) (S.opened shelf.old) file.0) (λ octets. segment.opening ≤ length octets → c ≡ first_child octets segment id)) }
+    ensures value { IfOk result (λ c. InFile S.files S.opened shelf.old file.0
+        (λ octets. segment.opening ≤ length octets → c ≡ first_child octets segment id)) }
     ensures order { IfOk result (λ c. IfSome c (λ x. (x.place < x.at) × (x.at ≤ x.stop))) }
     ensures onward { IfOk result (λ c. IfSome c (λ x. segment.opening < x.stop)) }
     ensures near { IfOk result (ReadsUnder (S.reach shelf.old) (S.reach shelf.new)) }
     ensures cause { HasCause (S.faults shelf.old) (S.faults shelf.new) result }
-    ensures kept { Keeps (S.files shelf.old) (S.files shelf.new) (S.opened shelf.old) (S.opened shelf.new) (S.reach shelf.old) (S.reach shelf.new) }
+    ensures kept { OnlyReads S.files S.opened S.reach shelf.old shelf.new }
 {
     let mut place = segment.opening;
     loop {
@@ -265,11 +283,12 @@ fn read_info<S: Shelf>(
     child: Child,
 ) -> Result<u64, OpenError>
     requires { child.at ≤ child.stop }
-    ensures value { Told (content (S.files shelf.old) (S.opened shelf.old) file.0) (λ octets. child.stop ≤ length octets → Gives result (info_in octets child)) }
+    ensures value { InFile S.files S.opened shelf.old file.0
+        (λ octets. child.stop ≤ length octets → Gives result (info_in octets child)) }
     ensures positive { IfOk result (λ scale. 0 < scale) }
     ensures near { S.reach shelf.new ≤ max (S.reach shelf.old) child.stop }
     ensures cause { BeginCause (S.faults shelf.old) (S.faults shelf.new) result }
-    ensures kept { Keeps (S.files shelf.old) (S.files shelf.new) (S.opened shelf.old) (S.opened shelf.new) (S.reach shelf.old) (S.reach shelf.new) }
+    ensures kept { OnlyReads S.files S.opened S.reach shelf.old shelf.new }
 {
     let broken = OpenError::Refused(Refused::Broken(child.place as u64));
     if child.stop - child.at > LARGEST {
@@ -288,11 +307,12 @@ fn read_tracks<S: Shelf>(
     child: Child,
 ) -> Result<TrackList, OpenError>
     requires { child.at ≤ child.stop }
-    ensures value { Told (content (S.files shelf.old) (S.opened shelf.old) file.0) (λ octets. child.stop ≤ length octets → Gives result (tracks_in octets child)) }
+    ensures value { InFile S.files S.opened shelf.old file.0
+        (λ octets. child.stop ≤ length octets → Gives result (tracks_in octets child)) }
     ensures listed { IfOk result IsTrackList }
     ensures near { S.reach shelf.new ≤ max (S.reach shelf.old) child.stop }
     ensures cause { BeginCause (S.faults shelf.old) (S.faults shelf.new) result }
-    ensures kept { Keeps (S.files shelf.old) (S.files shelf.new) (S.opened shelf.old) (S.opened shelf.new) (S.reach shelf.old) (S.reach shelf.new) }
+    ensures kept { OnlyReads S.files S.opened S.reach shelf.old shelf.new }
 {
     let broken = OpenError::Refused(Refused::Broken(child.place as u64));
     if child.stop - child.at > LARGEST {
@@ -314,12 +334,14 @@ fn read_info_first<S: Shelf>(
 ) -> Result<Header, OpenError>
     requires info { info.at ≤ info.stop }
     requires tracks { tracks.at ≤ tracks.stop }
-    ensures value { Told (content (S.files shelf.old) (S.opened shelf.old) file.0) (λ octets. info.stop ≤ length octets → tracks.stop ≤ length octets → Gives result (info_then_tracks octets info tracks)) }
+    ensures value { InFile S.files S.opened shelf.old file.0
+        (λ octets. info.stop ≤ length octets → tracks.stop ≤ length octets
+        → Gives result (info_then_tracks octets info tracks)) }
     ensures positive { IfOk result (λ h. 0 < h.scale) }
     ensures listed { IfOk result (λ h. IsTrackList h.tracks) }
     ensures near { S.reach shelf.new ≤ max (S.reach shelf.old) (max info.stop tracks.stop) }
     ensures cause { BeginCause (S.faults shelf.old) (S.faults shelf.new) result }
-    ensures kept { Keeps (S.files shelf.old) (S.files shelf.new) (S.opened shelf.old) (S.opened shelf.new) (S.reach shelf.old) (S.reach shelf.new) }
+    ensures kept { OnlyReads S.files S.opened S.reach shelf.old shelf.new }
 {
     let scale = read_info(alloc, shelf, file, info)?;
     let tracks = read_tracks(alloc, shelf, file, tracks)?;
@@ -336,12 +358,14 @@ fn read_tracks_first<S: Shelf>(
 ) -> Result<Header, OpenError>
     requires info { info.at ≤ info.stop }
     requires tracks { tracks.at ≤ tracks.stop }
-    ensures value { Told (content (S.files shelf.old) (S.opened shelf.old) file.0) (λ octets. info.stop ≤ length octets → tracks.stop ≤ length octets → Gives result (tracks_then_info octets info tracks)) }
+    ensures value { InFile S.files S.opened shelf.old file.0
+        (λ octets. info.stop ≤ length octets → tracks.stop ≤ length octets
+        → Gives result (tracks_then_info octets info tracks)) }
     ensures positive { IfOk result (λ h. 0 < h.scale) }
     ensures listed { IfOk result (λ h. IsTrackList h.tracks) }
     ensures near { S.reach shelf.new ≤ max (S.reach shelf.old) (max info.stop tracks.stop) }
     ensures cause { BeginCause (S.faults shelf.old) (S.faults shelf.new) result }
-    ensures kept { Keeps (S.files shelf.old) (S.files shelf.new) (S.opened shelf.old) (S.opened shelf.new) (S.reach shelf.old) (S.reach shelf.new) }
+    ensures kept { OnlyReads S.files S.opened S.reach shelf.old shelf.new }
 {
     let tracks = read_tracks(alloc, shelf, file, tracks)?;
     let scale = read_info(alloc, shelf, file, info)?;
@@ -358,13 +382,17 @@ fn read_found_header<S: Shelf>(
 ) -> Result<Header, OpenError>
     requires info { IfSome info (λ c. c.at ≤ c.stop) }
     requires tracks { IfSome tracks (λ c. c.at ≤ c.stop) }
-    ensures value { Told (content (S.files shelf.old) (S.opened shelf.old) file.0) (λ octets. IfSome info (λ c. c.stop ≤ length octets) → IfSome tracks (λ c. c.stop ≤ length octets) → Gives result (header_by octets info tracks)) }
+    ensures value { InFile S.files S.opened shelf.old file.0
+        (λ octets. IfSome info (λ c. c.stop ≤ length octets)
+        → IfSome tracks (λ c. c.stop ≤ length octets)
+        → Gives result (header_by octets info tracks)) }
     ensures positive { IfOk result (λ h. 0 < h.scale) }
     ensures listed { IfOk result (λ h. IsTrackList h.tracks) }
     ensures found { IfOk result (λ h. (info ≢ None) × (tracks ≢ None)) }
-    ensures near { IfOk result (λ h. S.reach shelf.new ≤ max (S.reach shelf.old) (max (stop_by info) (stop_by tracks))) }
+    ensures near { IfOk result
+        (λ h. S.reach shelf.new ≤ max (S.reach shelf.old) (max (stop_by info) (stop_by tracks))) }
     ensures cause { BeginCause (S.faults shelf.old) (S.faults shelf.new) result }
-    ensures kept { Keeps (S.files shelf.old) (S.files shelf.new) (S.opened shelf.old) (S.opened shelf.new) (S.reach shelf.old) (S.reach shelf.new) }
+    ensures kept { OnlyReads S.files S.opened S.reach shelf.old shelf.new }
 {
     match (info, tracks) {
         (Some(info), Some(tracks)) => {
@@ -395,12 +423,16 @@ pub(crate) fn read_header<S: Shelf>(
     file: FileNo,
     segment: Segment,
 ) -> Result<Header, OpenError>
-    ensures value { Told (content (S.files shelf.old) (S.opened shelf.old) file.0) (λ octets. segment.opening ≤ length octets → Gives result (header_of octets segment)) }
+    ensures value { InFile S.files S.opened shelf.old file.0
+        (λ octets. segment.opening ≤ length octets → Gives result (header_of octets segment)) }
     ensures positive { IfOk result (λ h. 0 < h.scale) }
     ensures listed { IfOk result (λ h. IsTrackList h.tracks) }
-    ensures near { IfOk result (λ h. Told (content (S.files shelf.old) (S.opened shelf.old) file.0) (λ octets. segment.opening ≤ length octets → (S.reach shelf.new ≤ max (S.reach shelf.old) (header_end octets segment + 12)) × (segment.opening < header_end octets segment))) }
+    ensures near { IfOk result (λ h. InFile S.files S.opened shelf.old file.0
+        (λ octets. segment.opening ≤ length octets
+        → (S.reach shelf.new ≤ max (S.reach shelf.old) (header_end octets segment + 12))
+        × (segment.opening < header_end octets segment))) }
     ensures cause { BeginCause (S.faults shelf.old) (S.faults shelf.new) result }
-    ensures kept { Keeps (S.files shelf.old) (S.files shelf.new) (S.opened shelf.old) (S.opened shelf.new) (S.reach shelf.old) (S.reach shelf.new) }
+    ensures kept { OnlyReads S.files S.opened S.reach shelf.old shelf.new }
 {
     let info = find_first(shelf, file, segment, ids::INFO)?;
     let tracks = find_first(shelf, file, segment, ids::TRACKS)?;
@@ -415,11 +447,13 @@ impl Cursor {
     /// faults rose in this call, or stands at its last value. Where a cursor is answered, nothing was
     /// asked for past the 12 octets behind Info and Tracks, whichever stands later.
     pub fn begin<S: Shelf>(alloc: Global, shelf: &mut S, file: FileNo) -> Result<Cursor, OpenError>
-        ensures value { Told (content (S.files shelf.old) (S.opened shelf.old) file.0) (λ octets. Begins octets result) }
+        ensures value { InFile S.files S.opened shelf.old file.0 (λ octets. Begins octets result) }
         ensures at { IfOk result (λ c. (mark_of c ≡ opening_mark) × (file_of c ≡ file.0)) }
-        ensures reach { IfOk result (λ c. Told (content (S.files shelf.old) (S.opened shelf.old) file.0) (λ octets. S.reach shelf.new ≤ max (S.reach shelf.old) (header_end octets (segment_for c) + 12))) }
+        ensures reach { IfOk result (λ c. InFile S.files S.opened shelf.old file.0
+            (λ octets. S.reach shelf.new
+            ≤ max (S.reach shelf.old) (header_end octets (segment_for c) + 12))) }
         ensures cause { BeginCause (S.faults shelf.old) (S.faults shelf.new) result }
-        ensures kept { Keeps (S.files shelf.old) (S.files shelf.new) (S.opened shelf.old) (S.opened shelf.new) (S.reach shelf.old) (S.reach shelf.new) }
+        ensures kept { OnlyReads S.files S.opened S.reach shelf.old shelf.new }
     {
         let from = read_ebml_header(alloc, shelf, file)?;
         let segment = find_segment(shelf, file, from as u64)?;

@@ -1,12 +1,12 @@
 ghost use Rattle.std.specs.Prelude.{◌≡◌, ℕ, ◌+◌, ◌-◌, ◌^◌, ◌<◌, ◌≤◌, max, length, Option, IfOk};
 ghost use Rattle.mc_ebml.specs.Element.{uint_of};
-ghost use Rattle.mc_outside.specs.Shelf.{KeepsRead, content};
+ghost use Rattle.mc_outside.specs.Shelf.{OnlyReadsTo};
 ghost use Rattle.mc_walk.specs.declared.movement.Move.TheVariants as moves;
 ghost use Rattle.mc_walk.specs.declared.plan.Plan.{Plan};
 ghost use Rattle.mc_walk.specs.Moves.{StartsBehind};
 ghost use Rattle.mc_walk.specs.Walk.{stamped, time_of, moved, step_at};
-ghost use Rattle.mc_cursor.specs.Causes.{ReadCause, Keeps};
-ghost use Rattle.mc_cursor.specs.Reads.{Told, found_at, Lies};
+ghost use Rattle.mc_cursor.specs.Causes.{ReadCause, OnlyReads};
+ghost use Rattle.mc_cursor.specs.Reads.{InFile, found_at, Lies};
 ghost use Rattle.mc_cursor.specs.Standing.{plan_for};
 ghost use Rattle.mc_cursor.specs.Steps.{bad_ending, turn_of, turned, LeadsOn, TurnsOn, passed_step, step_to, GoesOn, BeginsIn, IsUnread, TurnStarts, asked_for, ReadsUpTo};
 
@@ -101,7 +101,8 @@ pub(crate) fn cluster_time(level: Level) -> Option<u64>
 
 // What is reached behind an element that is passed over, and ends at `stop`.
 fn behind(stop: u64, passed: Result<Level, Ending>) -> Reached
-    ensures value { (plan : Plan) (place : ℕ) → step_to plan place result ≡ passed_step stop passed }
+    ensures value { (plan : Plan) (place : ℕ)
+        → step_to plan place result ≡ passed_step stop passed }
     ensures onward { (place : ℕ) → place < stop → GoesOn place result }
     ensures begins { (len : ℕ) → BeginsIn len result }
     ensures passed { ¬ IsUnread result }
@@ -123,9 +124,11 @@ impl Cursor {
         level: Level,
     ) -> Result<Result<Level, Ending>, CursorError>
         requires { at ≤ stop }
-        ensures value { IfOk result (λ r. Told (content (S.files shelf.old) (S.opened shelf.old) self.now.file.0) (λ octets. at ≤ length octets → passed_step stop r ≡ moved (plan_for octets self.now) place (moves.Pass Role.Other at stop level))) }
+        ensures value { IfOk result (λ r. InFile S.files S.opened shelf.old self.now.file.0
+            (λ octets. at ≤ length octets → passed_step stop r
+            ≡ moved (plan_for octets self.now) place (moves.Pass Role.Other at stop level))) }
         ensures cause { ReadCause (S.faults shelf.old) (S.faults shelf.new) result }
-        ensures kept { KeepsRead (S.files shelf.old) (S.files shelf.new) (S.opened shelf.old) (S.opened shelf.new) (S.reach shelf.old) (S.reach shelf.new) stop }
+        ensures kept { OnlyReadsTo S.files S.opened S.reach shelf.old shelf.new stop }
     {
         if read_ends_before(shelf, self.file, at, stop)? {
             return Ok(Err(Ending::Cut(place)));
@@ -143,9 +146,11 @@ impl Cursor {
         level: Level,
     ) -> Result<Result<Level, Ending>, CursorError>
         requires { at ≤ stop }
-        ensures value { IfOk result (λ r. Told (content (S.files shelf.old) (S.opened shelf.old) self.now.file.0) (λ octets. at ≤ length octets → passed_step stop r ≡ moved (plan_for octets self.now) place (moves.Pass Role.Timestamp at stop level))) }
+        ensures value { IfOk result (λ r. InFile S.files S.opened shelf.old self.now.file.0
+            (λ octets. at ≤ length octets → passed_step stop r
+            ≡ moved (plan_for octets self.now) place (moves.Pass Role.Timestamp at stop level))) }
         ensures cause { ReadCause (S.faults shelf.old) (S.faults shelf.new) result }
-        ensures kept { KeepsRead (S.files shelf.old) (S.files shelf.new) (S.opened shelf.old) (S.opened shelf.new) (S.reach shelf.old) (S.reach shelf.new) stop }
+        ensures kept { OnlyReadsTo S.files S.opened S.reach shelf.old shelf.new stop }
     {
         match read_part(self.alloc, shelf, self.file, at, stop)? {
             Some(body) => Ok(stamp(place, level, read_uint(body.as_slice()))),
@@ -164,9 +169,11 @@ impl Cursor {
         level: Level,
     ) -> Result<Result<Level, Ending>, CursorError>
         requires { at + 8 < stop }
-        ensures value { IfOk result (λ r. Told (content (S.files shelf.old) (S.opened shelf.old) self.now.file.0) (λ octets. at ≤ length octets → passed_step stop r ≡ moved (plan_for octets self.now) place (moves.Pass Role.Timestamp at stop level))) }
+        ensures value { IfOk result (λ r. InFile S.files S.opened shelf.old self.now.file.0
+            (λ octets. at ≤ length octets → passed_step stop r
+            ≡ moved (plan_for octets self.now) place (moves.Pass Role.Timestamp at stop level))) }
         ensures cause { ReadCause (S.faults shelf.old) (S.faults shelf.new) result }
-        ensures kept { KeepsRead (S.files shelf.old) (S.files shelf.new) (S.opened shelf.old) (S.opened shelf.new) (S.reach shelf.old) (S.reach shelf.new) stop }
+        ensures kept { OnlyReadsTo S.files S.opened S.reach shelf.old shelf.new stop }
     {
         if read_ends_before(shelf, self.file, at, stop)? {
             return Ok(Err(Ending::Cut(place)));
@@ -186,12 +193,14 @@ impl Cursor {
         level: Level,
     ) -> Result<Reached, CursorError>
         requires { (place < at) × (at ≤ stop) }
-        ensures value { IfOk result (λ s. Told (content (S.files shelf.old) (S.opened shelf.old) self.now.file.0) (λ octets. at ≤ length octets → step_to (plan_for octets self.now) place s ≡ moved (plan_for octets self.now) place (moves.Pass role at stop level))) }
+        ensures value { IfOk result (λ s. InFile S.files S.opened shelf.old self.now.file.0
+            (λ octets. at ≤ length octets → step_to (plan_for octets self.now) place s
+            ≡ moved (plan_for octets self.now) place (moves.Pass role at stop level))) }
         ensures onward { IfOk result (GoesOn place) }
         ensures begins { (len : ℕ) → at ≤ len → IfOk result (BeginsIn len) }
         ensures unread { IfOk result (λ s. IsUnread s → S.reach shelf.new ≡ S.reach shelf.old) }
         ensures cause { ReadCause (S.faults shelf.old) (S.faults shelf.new) result }
-        ensures kept { KeepsRead (S.files shelf.old) (S.files shelf.new) (S.opened shelf.old) (S.opened shelf.new) (S.reach shelf.old) (S.reach shelf.new) stop }
+        ensures kept { OnlyReadsTo S.files S.opened S.reach shelf.old shelf.new stop }
     {
         match role {
             Role::Other => Ok(behind(stop, self.pass_other(shelf, place, at, stop, level)?)),
@@ -215,12 +224,15 @@ impl Cursor {
         turn: Turn,
     ) -> Result<Reached, CursorError>
         requires { TurnsOn place turn }
-        ensures value { IfOk result (λ s. Told (content (S.files shelf.old) (S.opened shelf.old) self.now.file.0) (λ octets. TurnStarts place (length octets) turn → step_to (plan_for octets self.now) place s ≡ turned (plan_for octets self.now) place turn)) }
+        ensures value { IfOk result (λ s. InFile S.files S.opened shelf.old self.now.file.0
+            (λ octets. TurnStarts place (length octets) turn
+            → step_to (plan_for octets self.now) place s
+            ≡ turned (plan_for octets self.now) place turn)) }
         ensures onward { IfOk result (GoesOn place) }
         ensures begins { (len : ℕ) → TurnStarts place len turn → IfOk result (BeginsIn len) }
         ensures unread { IfOk result (λ s. IsUnread s → S.reach shelf.new ≡ S.reach shelf.old) }
         ensures cause { ReadCause (S.faults shelf.old) (S.faults shelf.new) result }
-        ensures kept { KeepsRead (S.files shelf.old) (S.files shelf.new) (S.opened shelf.old) (S.opened shelf.new) (S.reach shelf.old) (S.reach shelf.new) (asked_for turn) }
+        ensures kept { OnlyReadsTo S.files S.opened S.reach shelf.old shelf.new (asked_for turn) }
     {
         match turn {
             Turn::Ends(ending) => Ok(Reached::End(ending)),
@@ -245,12 +257,18 @@ impl Cursor {
         place: u64,
         level: Level,
     ) -> Result<Reached, CursorError>
-        ensures value { IfOk result (λ s. Told (content (S.files shelf.old) (S.opened shelf.old) self.now.file.0) (λ octets. place ≤ length octets → (step_to (plan_for octets self.now) place s ≡ step_at (plan_for octets self.now) place level) × BeginsIn (length octets) s)) }
+        ensures value { IfOk result (λ s. InFile S.files S.opened shelf.old self.now.file.0
+            (λ octets. place ≤ length octets → (step_to (plan_for octets self.now) place s
+            ≡ step_at (plan_for octets self.now) place level) × BeginsIn (length octets) s)) }
         ensures onward { IfOk result (GoesOn place) }
         ensures cause { ReadCause (S.faults shelf.old) (S.faults shelf.new) result }
-        ensures kept { Keeps (S.files shelf.old) (S.files shelf.new) (S.opened shelf.old) (S.opened shelf.new) (S.reach shelf.old) (S.reach shelf.new) }
-        ensures unread { IfOk result (λ s. IsUnread s → S.reach shelf.new ≤ max (S.reach shelf.old) (place + 12)) }
-        ensures reach { Told (content (S.files shelf.old) (S.opened shelf.old) self.now.file.0) (λ octets. place ≤ length octets → ReadsUpTo (step_at (plan_for octets self.now) place level) (S.reach shelf.old) (S.reach shelf.new)) }
+        ensures kept { OnlyReads S.files S.opened S.reach shelf.old shelf.new }
+        ensures unread { IfOk result (λ s. IsUnread s
+            → S.reach shelf.new ≤ max (S.reach shelf.old) (place + 12)) }
+        ensures reach { InFile S.files S.opened shelf.old self.now.file.0
+            (λ octets. place ≤ length octets
+            → ReadsUpTo (step_at (plan_for octets self.now) place level)
+            (S.reach shelf.old) (S.reach shelf.new)) }
     {
         let found = read_found(shelf, self.file, place)?;
         let turn = next_turn(self.segment_end, place, level, found);

@@ -1,9 +1,9 @@
 -- What a shelf in memory without spots tells.
-use Rattle.std.specs.Prelude.{ℕ, List}
+use Rattle.std.specs.Prelude.{ℕ, List, Option}
 use Rattle.mc_outside.specs.declared.memory.CleanShelf.{CleanShelf}
 use Rattle.mc_outside.specs.declared.named.NamedFile.{NamedFile}
 use Rattle.mc_outside.specs.Shelf.{Files, Opened}
-use Rattle.mc_outside.specs.Named.{file_of, name_at}
+use Rattle.mc_outside.specs.Named.{file_of, name_at, told_at}
 
 -- its files
 abbrev pub files_of : CleanShelf → List NamedFile
@@ -20,3 +20,7 @@ told_by s = file_of (files_of s)
 -- the name at each place of the list
 abbrev pub opened_by : CleanShelf → Opened
 opened_by s = name_at (files_of s)
+
+-- the octets of an opened file
+abbrev pub told_in : CleanShelf → ℕ → Option (List ℕ)
+told_in s file = told_at (files_of s) file

@@ -2,8 +2,10 @@ pub mod Causes
 pub mod Shelf
 pub mod Sink
 pub mod Named
-pub mod Short
+pub mod Held
 pub mod Spots
 pub mod CleanShelf
 pub mod MemShelf
+pub mod SliceShelf
+pub mod Lent
 pub mod MemSink

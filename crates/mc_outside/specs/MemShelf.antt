@@ -1,9 +1,9 @@
 -- What a shelf in memory tells.
-use Rattle.std.specs.Prelude.{ℕ, List}
+use Rattle.std.specs.Prelude.{ℕ, List, Option}
 use Rattle.mc_outside.specs.declared.memory.MemShelf.{MemShelf}
 use Rattle.mc_outside.specs.declared.named.NamedFile.{NamedFile}
 use Rattle.mc_outside.specs.Shelf.{Files, Opened}
-use Rattle.mc_outside.specs.Named.{file_of, name_at}
+use Rattle.mc_outside.specs.Named.{file_of, name_at, told_at}
 use Rattle.mc_outside.specs.Spots.{Spot}
 
 -- its files
@@ -29,3 +29,7 @@ told_by s = file_of (files_of s)
 -- the name at each place of the list
 abbrev pub opened_by : MemShelf → Opened
 opened_by s = name_at (files_of s)
+
+-- the octets of an opened file
+abbrev pub told_in : MemShelf → ℕ → Option (List ℕ)
+told_in s file = told_at (files_of s) file

@@ -6,7 +6,7 @@ use Rattle.mc_outside.specs.declared.named.NamedFile.{NamedFile}
 use Rattle.mc_outside.specs.declared.shelf.FileNo.{FileNo}
 use Rattle.mc_outside.specs.declared.shelf.ShelfError.{ShelfError}
 use Rattle.mc_outside.specs.declared.shelf.ShelfError.TheVariants.{NotFound, NoMemory}
-use Rattle.mc_outside.specs.Shelf.{Files, Opened}
+use Rattle.mc_outside.specs.Shelf.{Files, Opened, content}
 
 -- the name of a file
 abbrev pub name_of : NamedFile → List ℕ
@@ -27,6 +27,10 @@ file_of files name = option_map octets_of (first_named files name)
 -- the name of the file at a place of the list
 abbrev pub name_at : List NamedFile → Opened
 name_at files k = option_map name_of (slice_get files k)
+
+-- the octets of the file whose number is a place of the list
+abbrev pub told_at : List NamedFile → ℕ → Option (List ℕ)
+told_at files k = content (Some (file_of files)) (name_at files) k
 
 -- the place of the first file of that name
 abbrev pub place_of : List NamedFile → List ℕ → Option ℕ

@@ -1,5 +1,6 @@
 -- What a shelf of files means.
-use Rattle.std.specs.Prelude.{◌≡◌, ℕ, ◌-◌, ◌^◌, ◌<◌, ◌≤◌, max, List, length, take, drop, Option, Some, None, IfSome, Result, Ok, Err, IsErrOf}
+use Rattle.std.specs.Prelude.{◌≡◌, ℕ, ◌+◌, ◌-◌, ◌^◌, ◌<◌, ◌≤◌, min, max, List, length, take, drop, Option, Some, None, IfSome, Result, Ok, Err, IsErrOf}
+use Rattle.std.specs.List.{All}
 use Rattle.mc_outside.specs.declared.shelf.ShelfError.{ShelfError}
 use Rattle.mc_outside.specs.declared.shelf.ShelfError.TheVariants.{NotFound, Failed, NoMemory}
 use Rattle.mc_outside.specs.Causes.{Rose, counted}
@@ -35,6 +36,15 @@ IsTold (Some octets) = Unit {0}
 abbrev pub AreShort : Option Files → Type 0
 AreShort None = Unit {0}
 AreShort (Some files) = (name : List ℕ) → IfSome (files name) (λ octets. length octets < 2 ^ 63)
+
+-- These numbers are octets.
+abbrev pub AreBytes : List ℕ → Type 0
+AreBytes octets = All (λ b. b < 256) octets
+
+-- Every told file is a list of octets.
+abbrev pub HoldBytes : Option Files → Type 0
+HoldBytes None = Unit {0}
+HoldBytes (Some files) = (name : List ℕ) → IfSome (files name) AreBytes
 
 -- An opened number stands for the name, which the told files have.
 abbrev pub Opens : Option Files → Opened → List ℕ → ℕ → Type 0
@@ -79,6 +89,26 @@ pub record KeepsOpen (files files' : Option Files) (opened opened' : Opened) (re
   pub same_files : files' ≡ files
   pub kept : KeepsOpened opened opened'
   pub same_reach : reach' ≡ reach
+
+-- ---- the same of a shelf, whose members are named once
+
+-- The octets of an opened file, where the shelf tells them.
+abbrev pub content_of : {S : Type 0} → (S → Option Files) → (S → Opened) → S → ℕ → Option (List ℕ)
+content_of files opened shelf file = content (files shelf) (opened shelf) file
+
+-- A read changed nothing of the shelf but its reach, and asked no further than to a place.
+abbrev pub OnlyReadsTo : {S : Type 0} → (S → Option Files) → (S → Opened) → (S → ℕ) → S → S → ℕ → Type 0
+OnlyReadsTo files opened reach old new asked = KeepsRead (files old) (files new) (opened old) (opened new) (reach old) (reach new) asked
+
+-- Opening changed nothing of the shelf but its numbers.
+abbrev pub OnlyOpens : {S : Type 0} → (S → Option Files) → (S → Opened) → (S → ℕ) → S → S → Type 0
+OnlyOpens files opened reach old new = KeepsOpen (files old) (files new) (opened old) (opened new) (reach old) (reach new)
+
+-- ---- the counts
+
+-- how far reads have asked after one of n octets from pos on, as far as a counter of 64 bits goes
+abbrev pub reach_after : ℕ → ℕ → ℕ → ℕ
+reach_after reach pos n = max reach (min (pos + n) (2 ^ 64 - 1))
 
 -- how many calls failed after one that opened a file, where each failure counts
 abbrev pub faults_after_open : {T : Type 0} → Result T ShelfError → ℕ → ℕ

@@ -1,4 +1,4 @@
-ghost use Rattle.std.specs.Prelude.{◌≡◌, ◌≤◌, ◌<◌, length, IfOk, IfErr, IfSome};
+ghost use Rattle.std.specs.Prelude.{None, ◌≡◌, ◌≤◌, ◌<◌, length, IfOk, IfErr, IfSome};
 ghost use Rattle.mc_outside.specs.Causes.{HasCause};
 ghost use Rattle.mc_outside.specs.Shelf.{InBounds, KeepsOpen, OpenCause, Opens, faults_after_open, faults_after_read};
 ghost use Rattle.mc_outside.specs.Sink.{Took, WriteCause, faults_after_write};
@@ -14,13 +14,20 @@ use std::rt::Files;
 /// The files of the system, by their paths. It tells no content, and is trusted to give that of
 /// the files. Each call that the system refuses counts a fault, as far as a `u64` counts.
 ///
+/// At or past a file's present end it reads nothing, wherever that is, also where the file system
+/// refuses so large a place. So a read fails only where the length cannot be asked, or where a
+/// place below it cannot be read.
+///
 /// It keeps a window of 65,536 octets of the file that was read last, so that reads of few octets
 /// seldom ask the system. A read of more octets than that goes straight into its buffer.
 #[derive(Drop)]
 pub struct FileShelf<'a, R: Files> {
     rt: &'a R,
+    // The opened files: each stands at the place that is its number, and none is closed.
     files: Vec<R::File>,
+    // What was read last. It has room from the first opening on.
     window: Window,
+    // How many calls the system refused.
     faults: u64,
 }
 
@@ -73,7 +80,7 @@ impl<'a, R: Files> FileShelf<'a, R> {
         }
     }
 
-    // Reads some octets of an opened file. None: the system refused.
+    // Reads some octets of an opened file. None: the system refused, at a place that the file has.
     fn part(&mut self, number: FileNo, pos: u64, buf: &mut [u8]) -> Option<usize>
         ensures bounds { IfSome result (λ n. InBounds pos buf.new n) }
         ensures faults { self.new.faults ≡ self.old.faults }
@@ -96,8 +103,6 @@ impl<'a, R: Files> FileShelf<'a, R> {
 }
 
 impl<'a, R: Files> Shelf for FileShelf<'a, R> {
-    ghost use Rattle.std.specs.Prelude.{None};
-
     ghost files = { λ s. None };
 
     ghost opened = { λ s k. None };
@@ -108,12 +113,14 @@ impl<'a, R: Files> Shelf for FileShelf<'a, R> {
 
     ghost short = { λ s. tt };
 
+    ghost octets = { λ s. tt };
+
     /// Opens a path for reading. It never answers `NotFound`: a path that cannot be opened is a
     /// fault.
     fn open_file(&mut self, name: &str) -> Result<FileNo, ShelfError>
-        ensures opens { IfOk result (λ n. Opens (⟦<FileShelf<'a, R> as Shelf>⟧.files self.new) (⟦<FileShelf<'a, R> as Shelf>⟧.opened self.new) name.now n.0) }
-        ensures cause { OpenCause (⟦<FileShelf<'a, R> as Shelf>⟧.files self.old) name.now (⟦<FileShelf<'a, R> as Shelf>⟧.faults self.old) (⟦<FileShelf<'a, R> as Shelf>⟧.faults self.new) result }
-        ensures kept { KeepsOpen (⟦<FileShelf<'a, R> as Shelf>⟧.files self.old) (⟦<FileShelf<'a, R> as Shelf>⟧.files self.new) (⟦<FileShelf<'a, R> as Shelf>⟧.opened self.old) (⟦<FileShelf<'a, R> as Shelf>⟧.opened self.new) (⟦<FileShelf<'a, R> as Shelf>⟧.reach self.old) (⟦<FileShelf<'a, R> as Shelf>⟧.reach self.new) }
+        ensures opens { IfOk result (λ n. Opens None (λ k. None) name.now n.0) }
+        ensures cause { OpenCause None name.now self.old.faults self.new.faults result }
+        ensures kept { KeepsOpen None None (λ k. None) (λ k. None) 0 0 }
         ensures number { IfOk result (λ n. n.0 ≡ length self.old.files.items) }
     {
         self.open(name)
@@ -137,6 +144,7 @@ impl<'a, R: Files> Shelf for FileShelf<'a, R> {
 #[derive(Drop)]
 pub struct StdSink<W: Write> {
     out: W,
+    // How many writes failed or took nothing.
     faults: u64,
 }
 
@@ -163,8 +171,6 @@ fn write_some<W: Write>(writer: &mut W, piece: &[u8]) -> IoResult<usize>
 }
 
 impl<W: Write> Sink for StdSink<W> {
-    ghost use Rattle.std.specs.Prelude.{None};
-
     ghost text = { λ s. None };
 
     ghost faults = { λ s. s.faults };
@@ -172,8 +178,8 @@ impl<W: Write> Sink for StdSink<W> {
     /// One write to the system, begun again where it is interrupted. It takes no memory.
     fn write(&mut self, piece: &[u8]) -> Result<usize, SinkError>
         ensures took { IfOk result (λ n. Took piece.now n) }
-        ensures cause { WriteCause (⟦<StdSink<W> as Sink>⟧.faults self.old) (⟦<StdSink<W> as Sink>⟧.faults self.new) result }
-        ensures faults { ⟦<StdSink<W> as Sink>⟧.faults self.new ≡ faults_after_write result (⟦<StdSink<W> as Sink>⟧.faults self.old) }
+        ensures cause { WriteCause self.old.faults self.new.faults result }
+        ensures faults { self.new.faults ≡ faults_after_write result self.old.faults }
         ensures device { IfErr result (λ e. e ≡ SinkError.Failed) }
     {
         match write_some(&mut self.out, piece) {

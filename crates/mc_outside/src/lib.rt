@@ -7,21 +7,23 @@
 #![tactic(auto)]
 
 mod edge;
+mod law;
 mod listed;
 mod memory;
 mod named;
 mod shelf;
 mod sink;
+mod slice;
 mod spots;
-#[cfg(test)]
-mod tests;
 mod texts;
 mod window;
 
 pub use edge::{FileShelf, StdSink};
+pub use law::{grows_more, told_content};
 pub use memory::{CleanShelf, MemShelf};
 pub use named::{NamedFile, NamedFiles, NoMemory};
 pub use shelf::{Failed, FileNo, ReadFault, Shelf, ShelfError, read_full};
 pub use sink::{Sink, SinkError, write_full};
+pub use slice::SliceShelf;
 pub use spots::Spots;
 pub use texts::{CleanSink, MemSink, Numbers};

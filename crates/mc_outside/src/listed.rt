@@ -1,8 +1,8 @@
 // Reads of files that stand in a list.
 ghost use Rattle.std.specs.Prelude.{◌≡◌, ◌++◌, length, drop, Some, option_map};
 ghost use Rattle.std.specs.Option.{option_copied};
-ghost use Rattle.mc_outside.specs.Shelf.{Reads, InBounds, content};
-ghost use Rattle.mc_outside.specs.Named.{first_named, file_of, name_at, place_of, numbered, part_of};
+ghost use Rattle.mc_outside.specs.Shelf.{Reads, InBounds};
+ghost use Rattle.mc_outside.specs.Named.{first_named, place_of, numbered, part_of, told_at};
 
 use crate::named::NamedFile;
 use crate::shelf::{FileNo, ShelfError};
@@ -34,19 +34,20 @@ fn first<'a>(files: &'a [NamedFile], name: &str) -> Option<&'a NamedFile>
 
 // The octets that stand under the name of a file.
 fn octets(files: &[NamedFile], file: FileNo) -> Option<&[u8]>
-    ensures { option_map (λ (b : _). b.now) result ≡ content (Some (file_of files.now)) (name_at files.now) file.0 }
+    ensures { option_map (λ (b : _). b.now) result ≡ told_at files.now file.0 }
 {
     let named = files.get(file.0 as usize)?;
     let first = first(files, named.name())?;
     Some(first.body())
 }
 
-// Copies the part of some octets that begins at a place, as far as the buffer has room.
-fn copy_part(octets: &[u8], pos: u64, buf: &mut [u8]) -> usize
+/// Copies the part of some octets that begins at a place, as far as the buffer has room.
+pub(crate) fn copy_part(octets: &[u8], pos: u64, buf: &mut [u8]) -> usize
     ensures bounds { InBounds pos buf.new result }
     ensures octets { Reads (Some octets.now) pos buf.new result }
     ensures count { result ≡ length (part_of (Some octets.now) pos (length buf.old)) }
-    ensures filled { buf.new ≡ part_of (Some octets.now) pos (length buf.old) ++ drop result buf.old }
+    ensures filled { buf.new
+        ≡ part_of (Some octets.now) pos (length buf.old) ++ drop result buf.old }
 {
     let len = octets.len();
     if pos >= len as u64 {
@@ -63,8 +64,8 @@ fn copy_part(octets: &[u8], pos: u64, buf: &mut [u8]) -> usize
 /// other room.
 pub(crate) fn read_listed(files: &[NamedFile], file: FileNo, pos: u64, buf: &mut [u8]) -> usize
     ensures bounds { InBounds pos buf.new result }
-    ensures octets { Reads (content (Some (file_of files.now)) (name_at files.now) file.0) pos buf.new result }
-    ensures count { result ≡ length (part_of (content (Some (file_of files.now)) (name_at files.now) file.0) pos (length buf.old)) }
+    ensures octets { Reads (told_at files.now file.0) pos buf.new result }
+    ensures count { result ≡ length (part_of (told_at files.now file.0) pos (length buf.old)) }
 {
     match octets(files, file) {
         None => 0,

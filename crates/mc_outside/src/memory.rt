@@ -1,7 +1,7 @@
-ghost use Rattle.std.specs.Prelude.{◌≡◌, ◌+◌, ◌-◌, ◌^◌, length, min, max, Some, Ok, IsErr, IfOk, MatchBool};
+ghost use Rattle.std.specs.Prelude.{◌≡◌, length, Some, Ok, IsErr, IfOk, MatchBool};
 ghost use Rattle.mc_outside.specs.Causes.{HasCause};
-ghost use Rattle.mc_outside.specs.Shelf.{KeepsOpen, KeepsRead, Opens, OpenCause, Reads, InBounds, content, faults_after_read};
-ghost use Rattle.mc_outside.specs.Named.{file_of, name_at, place_of, numbered, part_of};
+ghost use Rattle.mc_outside.specs.Shelf.{Opens, OpenCause, Reads, InBounds, faults_after_read, reach_after};
+ghost use Rattle.mc_outside.specs.Named.{place_of, numbered, part_of};
 ghost use Rattle.mc_outside.specs.Spots.{meets_spot, left_of};
 
 use crate::listed::{number, read_listed};
@@ -13,7 +13,9 @@ use crate::spots::{Spots, spend};
 /// list, and a name is that of the first file which has it.
 #[derive(Drop)]
 pub struct CleanShelf {
+    // The files: `new` alone sets them.
     files: NamedFiles,
+    // How far reads have asked: each read raises it.
     reach: u64,
 }
 
@@ -30,7 +32,7 @@ impl CleanShelf {
 
     // Notes that a read asks for so many octets from a place on.
     fn ask(&mut self, pos: u64, len: usize)
-        ensures { self.new ≡ record self.old { reach = max self.old.reach (min (pos + len) (2 ^ 64 - 1)) } }
+        ensures { self.new ≡ record self.old { reach = reach_after self.old.reach pos len } }
     {
         self.reach = self.reach.max(pos.saturating_add(len as u64));
     }
@@ -38,8 +40,8 @@ impl CleanShelf {
 
 impl Shelf for CleanShelf {
     ghost use Rattle.std.specs.Prelude.{Some};
-    ghost use Rattle.mc_outside.specs.CleanShelf.{files_of, reach_of, told_by, opened_by};
-    ghost use Rattle.mc_outside.specs.Short.{are_short};
+    ghost use Rattle.mc_outside.specs.CleanShelf.{files_of, reach_of, told_by, opened_by, told_in};
+    ghost use Rattle.mc_outside.specs.Held.{are_short, hold_bytes};
 
     ghost files = { λ s. Some (told_by s) };
 
@@ -51,9 +53,12 @@ impl Shelf for CleanShelf {
 
     ghost short = { λ s. are_short s.files };
 
+    ghost octets = { λ s. hold_bytes s.files };
+
     /// `NoMemory` comes only where the file's place in the list is no `FileNo`.
     fn open_file(&mut self, name: &str) -> Result<FileNo, ShelfError>
-        ensures opens { IfOk result (λ n. Opens (Some (told_by self.new)) (opened_by self.new) name.now n.0) }
+        ensures opens { IfOk result
+            (λ n. Opens (Some (told_by self.new)) (opened_by self.new) name.now n.0) }
         ensures cause { OpenCause (Some (told_by self.old)) name.now 0 0 result }
         ensures number { result ≡ numbered (place_of (files_of self.old) name.now) }
         ensures same { self.new ≡ self.old }
@@ -64,10 +69,11 @@ impl Shelf for CleanShelf {
     /// It reads as many octets as the file has and `buf` has room for.
     fn read_at(&mut self, file: FileNo, pos: u64, buf: &mut [u8]) -> Result<usize, Failed>
         ensures bounds { IfOk result (λ n. InBounds pos buf.new n) }
-        ensures octets { IfOk result (λ n. Reads (content (Some (told_by self.old)) (opened_by self.old) file.0) pos buf.new n) }
-        ensures count { result ≡ Ok (length (part_of (content (Some (told_by self.old)) (opened_by self.old) file.0) pos (length buf.old))) }
+        ensures octets { IfOk result (λ n. Reads (told_in self.old file.0) pos buf.new n) }
+        ensures count { result
+            ≡ Ok (length (part_of (told_in self.old file.0) pos (length buf.old))) }
         ensures files { files_of self.new ≡ files_of self.old }
-        ensures reach { reach_of self.new ≡ max (reach_of self.old) (min (pos + length buf.old) (2 ^ 64 - 1)) }
+        ensures reach { reach_of self.new ≡ reach_after (reach_of self.old) pos (length buf.old) }
     {
         self.ask(pos, buf.len());
         Ok(read_listed(self.files.as_slice(), file, pos, buf))
@@ -82,8 +88,11 @@ impl Shelf for CleanShelf {
 /// fails, counts one fault and spends these spots.
 #[derive(Drop)]
 pub struct MemShelf {
+    // The files, and how far reads have asked.
     clean: CleanShelf,
+    // The spots for which no read has asked: a read that fails takes its own away.
     spots: Spots,
+    // How many reads failed.
     faults: u64,
 }
 
@@ -107,8 +116,8 @@ impl MemShelf {
 
 impl Shelf for MemShelf {
     ghost use Rattle.std.specs.Prelude.{Some};
-    ghost use Rattle.mc_outside.specs.MemShelf.{files_of, spots_of, faults_of, reach_of, told_by, opened_by};
-    ghost use Rattle.mc_outside.specs.Short.{are_short};
+    ghost use Rattle.mc_outside.specs.MemShelf.{files_of, spots_of, faults_of, reach_of, told_by, opened_by, told_in};
+    ghost use Rattle.mc_outside.specs.Held.{are_short, hold_bytes};
 
     ghost files = { λ s. Some (told_by s) };
 
@@ -120,10 +129,14 @@ impl Shelf for MemShelf {
 
     ghost short = { λ s. are_short s.clean.files };
 
+    ghost octets = { λ s. hold_bytes s.clean.files };
+
     /// `NoMemory` comes only where the file's place in the list is no `FileNo`.
     fn open_file(&mut self, name: &str) -> Result<FileNo, ShelfError>
-        ensures opens { IfOk result (λ n. Opens (Some (told_by self.new)) (opened_by self.new) name.now n.0) }
-        ensures cause { OpenCause (Some (told_by self.old)) name.now (faults_of self.old) (faults_of self.new) result }
+        ensures opens { IfOk result
+            (λ n. Opens (Some (told_by self.new)) (opened_by self.new) name.now n.0) }
+        ensures cause { OpenCause (Some (told_by self.old)) name.now (faults_of self.old)
+            (faults_of self.new) result }
         ensures number { result ≡ numbered (place_of (files_of self.old) name.now) }
         ensures same { self.new ≡ self.old }
     {
@@ -133,14 +146,16 @@ impl Shelf for MemShelf {
     /// It reads as many octets as the file has and `buf` has room for, or it fails.
     fn read_at(&mut self, file: FileNo, pos: u64, buf: &mut [u8]) -> Result<usize, Failed>
         ensures bounds { IfOk result (λ n. InBounds pos buf.new n) }
-        ensures octets { IfOk result (λ n. Reads (content (Some (told_by self.old)) (opened_by self.old) file.0) pos buf.new n) }
+        ensures octets { IfOk result (λ n. Reads (told_in self.old file.0) pos buf.new n) }
         ensures cause { HasCause (faults_of self.old) (faults_of self.new) result }
-        ensures answer { MatchBool (meets_spot file.0 pos (length buf.old) (spots_of self.old)) (IsErr result)
-            (result ≡ Ok (length (part_of (content (Some (told_by self.old)) (opened_by self.old) file.0) pos (length buf.old)))) }
+        ensures answer { MatchBool (meets_spot file.0 pos (length buf.old) (spots_of self.old))
+            (IsErr result)
+            (result ≡ Ok (length (part_of (told_in self.old file.0) pos (length buf.old)))) }
         ensures faults { faults_of self.new ≡ faults_after_read result (faults_of self.old) }
-        ensures spent { spots_of self.new ≡ left_of file.0 pos (length buf.old) (spots_of self.old) }
+        ensures spent { spots_of self.new
+            ≡ left_of file.0 pos (length buf.old) (spots_of self.old) }
         ensures files { files_of self.new ≡ files_of self.old }
-        ensures reach { reach_of self.new ≡ max (reach_of self.old) (min (pos + length buf.old) (2 ^ 64 - 1)) }
+        ensures reach { reach_of self.new ≡ reach_after (reach_of self.old) pos (length buf.old) }
     {
         if spend(&mut self.spots, file.0, pos, buf.len() as u64) {
             self.clean.ask(pos, buf.len());

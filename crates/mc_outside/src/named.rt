@@ -1,4 +1,5 @@
 ghost use Rattle.std.specs.Prelude.{◌≡◌, ◌<◌, ◌^◌, length, IfOk};
+ghost use Rattle.mc_outside.specs.Shelf.{AreBytes};
 
 use sqlite_items::Items;
 use std::alloc::{AllocError, Global};
@@ -9,9 +10,11 @@ pub type NoMemory = AllocError;
 /// A file in memory: a name and its octets.
 #[derive(Drop)]
 pub struct NamedFile {
+    // Both are set by `new` alone.
     name: String,
     body: Vec<u8>,
     ghost short: { length body.items < 2 ^ 63 },
+    ghost bytes: { AreBytes body.items },
 }
 
 /// A list of files in memory. A name is that of the first file which has it.

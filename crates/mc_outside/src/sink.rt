@@ -23,7 +23,8 @@ pub trait Sink {
     /// a piece that is not empty counts a fault and answers `Failed`.
     fn write(&mut self, piece: &[u8]) -> Result<usize, SinkError>
         ensures took { IfOk result (λ n. Took piece.now n) }
-        ensures grown { IfOk result (λ n. Grows (text self.old) (text self.new) (take n piece.now)) }
+        ensures grown { IfOk result
+            (λ n. Grows (text self.old) (text self.new) (take n piece.now)) }
         ensures refused { OnErr result (text self.new ≡ text self.old) }
         ensures cause { WriteCause (faults self.old) (faults self.new) result };
 }

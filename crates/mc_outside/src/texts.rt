@@ -10,6 +10,7 @@ use std::marker::Model;
 /// A text in memory that never fails: it counts no fault. Contracts see it as its octets.
 #[derive(Drop)]
 pub struct CleanSink {
+    // What was written: `write` alone adds to it.
     text: Vec<u8>,
 }
 
@@ -67,8 +68,11 @@ pub type Numbers = Items<u64>;
 /// text as it was.
 #[derive(Drop)]
 pub struct MemSink {
+    // What was written.
     clean: CleanSink,
+    // The numbers of the calls that fail: `new` alone sets them.
     bad: Numbers,
+    // How many calls there were, and how many of them failed.
     calls: u64,
     faults: u64,
 }
@@ -114,7 +118,8 @@ impl Sink for MemSink {
         ensures grown { IfOk result (λ n. text_of self.new ≡ text_of self.old ++ piece.now) }
         ensures refused { OnErr result (text_of self.new ≡ text_of self.old) }
         ensures cause { WriteCause (faults_of self.old) (faults_of self.new) result }
-        ensures failed { (result ≡ Err SinkError.Failed) ↔ Contains (bad_of self.old) (calls_of self.old) }
+        ensures failed { (result
+            ≡ Err SinkError.Failed) ↔ Contains (bad_of self.old) (calls_of self.old) }
         ensures faults { faults_of self.new ≡ faults_after_write result (faults_of self.old) }
         ensures calls { calls_of self.new ≡ counted (calls_of self.old) }
         ensures bad { bad_of self.new ≡ bad_of self.old }

@@ -119,8 +119,22 @@ impl Window {
     }
 }
 
-/// One read from a place on.
+/// One read from a place on. At or past the file's present end it reads nothing, also where the
+/// system refuses the place.
 pub(crate) fn read_from<F: Read + Seek>(source: &mut F, pos: u64, buf: &mut [u8]) -> IoResult<usize>
+    ensures { IfOk result (λ n. n ≤ length buf.new) }
+{
+    match read_there(source, pos, buf) {
+        Ok(count) => Ok(count),
+        Err(refused) => if source.seek(SeekFrom::End(0))? <= pos {
+            Ok(0)
+        } else {
+            Err(refused)
+        },
+    }
+}
+
+fn read_there<F: Read + Seek>(source: &mut F, pos: u64, buf: &mut [u8]) -> IoResult<usize>
     ensures { IfOk result (λ n. n ≤ length buf.new) }
 {
     source.seek(SeekFrom::Start(pos))?;

@@ -29,6 +29,8 @@ impl<S: Shelf + Drop> Shelf for ShortShelf<S> {
 
     ghost short = { λ s. tt };
 
+    ghost octets = { λ s. tt };
+
     /// `NoMemory` where the shelf behind it has no such file.
     fn open_file(&mut self, name: &str) -> Result<FileNo, ShelfError> {
         match self.inner.open_file(name) {

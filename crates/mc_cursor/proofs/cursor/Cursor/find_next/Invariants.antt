@@ -1,8 +1,6 @@
 use Rattle.std.proofs.Common.{◌-◌, ◌^◌, ◌<◌, ◌≤◌}
-use Rattle.mc_outside.specs.Shelf.{content}
-use Rattle.mc_cursor.specs.Causes.{Keeps}
-use Rattle.mc_cursor.specs.Reads.{Told}
-use Rattle.mc_cursor.specs.Standing.{StandsFor}
+use Rattle.mc_cursor.specs.Causes.{OnlyReads}
+use Rattle.mc_cursor.specs.Standing.{OnFilm}
 use Rattle.mc_cursor.proofs.Chunks.{SoFar}
 use Rattle.mc_cursor.proofs.cursor.Cursor.find_next.Given as goal
 
@@ -10,11 +8,11 @@ use Rattle.mc_cursor.proofs.cursor.Cursor.find_next.Given as goal
 abbrev pub invariant-loop-ending : goal.invariant-loop-ending
 invariant-loop-ending g l = record {
   later : g.S.Shelf.faults l.initial.shelf ≤ g.S.Shelf.faults l.shelf;
-  kept : Keeps (g.S.Shelf.files l.initial.shelf) (g.S.Shelf.files l.shelf) (g.S.Shelf.opened l.initial.shelf) (g.S.Shelf.opened l.shelf) (g.S.Shelf.reach l.initial.shelf) (g.S.Shelf.reach l.shelf);
+  kept : OnlyReads g.S.Shelf.files g.S.Shelf.opened g.S.Shelf.reach l.initial.shelf l.shelf;
   positive : 0 < l.place;
   onward : l.self.mark.pos ≤ l.place;
-  told : Told (content (g.S.Shelf.files l.initial.shelf) (g.S.Shelf.opened l.initial.shelf) l.self.file.0)
-      (λ octets. StandsFor octets l.self → SoFar octets l.self l.place l.level (g.S.Shelf.reach l.initial.shelf) (g.S.Shelf.reach l.shelf));
+  told : OnFilm g.S.Shelf.files g.S.Shelf.opened l.initial.shelf l.self
+      (λ octets. SoFar octets l.self l.place l.level (g.S.Shelf.reach l.initial.shelf) (g.S.Shelf.reach l.shelf));
 }
 
 abbrev pub decreases-loop-ending : goal.decreases-loop-ending

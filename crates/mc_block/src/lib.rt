@@ -20,7 +20,7 @@ pub use error::BlockError;
 pub use group::{Child, GroupParts, child_by_head, group_body};
 pub use lace::{frames, is_laced};
 pub use lace_reader::LaceReader;
-pub use law::plain_blocks;
+pub use law::{packets_of_blocks, plain_blocks};
 pub use packets::{block_packets, is_key, parse_block, parse_group};
 pub use parts::{BlockBody, BlockHead, FrameSpans, Place};
 pub use times::frame_time;

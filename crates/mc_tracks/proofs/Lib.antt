@@ -4,3 +4,4 @@ pub mod Counted
 pub mod Listed
 pub mod Plain
 pub mod Shape
+pub mod Selecting

@@ -1,6 +1,6 @@
 -- What is listed is a list of at most 64 tracks, each under a number of its own.
 use Rattle.std.proofs.Common.{◌≡◌, ◌≢◌, ℕ, ◌+◌, ◌<◌, Bool, true, false, cond, ◌||◌, subst, List, [], ◌∷◌, ◌++◌, length, map, Option, Some, None, Result, Ok, Err, refl, ap, ◌∙◌, arith, nat_le, nat_eq, is_some, codes}
-use Rattle.std.specs.Prelude.{option_map, ◌==◌}
+use Rattle.std.specs.Prelude.{option_map, ◌==◌, IfSome}
 use Rattle.std.specs.List.{list_any, IsDistinct}
 use Rattle.std.specs.Cmp.{nat_eq_equiv}
 use Rattle.std.proofs.lemmas.Bool.{eqb-false, leb-false}
@@ -13,10 +13,10 @@ use Rattle.mc_tracks.specs.declared.children.Master.TheVariants.{Tracks, TrackEn
 use Rattle.mc_tracks.specs.declared.refused.Refused.{Refused}
 use Rattle.mc_tracks.specs.declared.refused.Refused.TheVariants.{NoNumber, TwiceNumber, TooMany}
 use Rattle.mc_tracks.specs.declared.track.Track.{Track}
-use Rattle.mc_tracks.specs.Ids.{CODEC_ID, NAME, LANGUAGE, TRACK_ENTRY, TRACK_NUMBER, TRACK_TYPE}
+use Rattle.mc_ebml.specs.Ids.{CODEC_ID, NAME, LANGUAGE, DEFAULT_DURATION, TRACK_ENTRY, TRACK_NUMBER, TRACK_TYPE}
 use Rattle.mc_tracks.specs.Answer.{◌>>=◌}
 use Rattle.mc_tracks.specs.Children.{Children, children_of, first}
-use Rattle.mc_tracks.specs.Header.{integer, kind_of, body_of, unless_broken, positive_number, track, entry_of, with_track, with_child, listed, tracks_of}
+use Rattle.mc_tracks.specs.Header.{integer, kind_of, body_of, unless_broken, positive_number, duration, track, entry_of, with_track, with_child, listed, tracks_of}
 use Rattle.mc_tracks.specs.TrackList.{numbered, IsListed, IsTrackList}
 use Rattle.mc_tracks.proofs.Plain.{nothing, eng, is_plain}
 
@@ -32,12 +32,20 @@ not_refused false r x y e = (refl, e)
 
 -- ---- a track
 
+lasts : (n : ℕ) → IfSome (duration n) (λ d. 0 < d)
+lasts n = by (n == 0) refl
+  where
+    by : (b : Bool) → (n == 0) ≡ b → IfSome (cond b None (Some n)) (λ d. 0 < d)
+    by true e = tt
+    by false e = let differs : n ≢ 0 = eqb-false n 0 e in omega (arith, differs)
+
 is_listed : (body : List ℕ) (cs : List Child) (n : ℕ) (kind : Kind) → 0 < n → IsListed (track body cs n kind)
 is_listed body cs n kind positive = record {
   positive = positive;
   codec = is_plain body [] (first CODEC_ID cs) nothing;
   name = is_plain body [] (first NAME cs) nothing;
   language = is_plain body (codes "eng") (first LANGUAGE cs) eng;
+  duration = lasts (integer body 0 (first DEFAULT_DURATION cs));
 }
 
 above_zero : (n m : ℕ) → positive_number n ≡ Ok m → 0 < m

@@ -8,7 +8,7 @@ use Rattle.mc_ebml.specs.Element.{head_at}
 use Rattle.mc_tracks.specs.declared.children.Child.{Child}
 use Rattle.mc_tracks.specs.declared.children.Master.{Master}
 use Rattle.mc_tracks.specs.declared.children.Master.TheVariants.{EbmlHeader, Info, Tracks, TrackEntry}
-use Rattle.mc_tracks.specs.Ids.{EBML_READ_VERSION, EBML_MAX_ID_LENGTH, EBML_MAX_SIZE_LENGTH, DOC_TYPE_READ_VERSION, TIMESTAMP_SCALE, TRACK_NUMBER, TRACK_UID, TRACK_TYPE, FLAG_DEFAULT, DEFAULT_DURATION}
+use Rattle.mc_ebml.specs.Ids.{EBML_READ_VERSION, EBML_MAX_ID_LENGTH, EBML_MAX_SIZE_LENGTH, DOC_TYPE_READ_VERSION, TIMESTAMP_SCALE, TRACK_NUMBER, TRACK_UID, TRACK_TYPE, FLAG_DEFAULT, DEFAULT_DURATION}
 
 abbrev pub known_element : ℕ → ℕ → ℕ → ℕ → Size → Option Child
 known_element len place id at Unknown = None

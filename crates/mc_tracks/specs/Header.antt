@@ -1,6 +1,6 @@
 -- What stands before the packets of a film: the EBML header (RFC 8794, section 11.2), and Info and
 -- Tracks of the Segment (RFC 9559, sections 5.1.2 and 5.1.4).
-use Rattle.std.specs.Prelude.{ℕ, ◌+◌, ◌-◌, Bool, not, ◌||◌, nat_lt, nat_le, ◌==◌, nat_eq, is_some, codes, if◌then◌else◌, List, [], ◌∷◌, ◌++◌, length, slice_range, option_map, Option, Some, None, Result, Ok, Err}
+use Rattle.std.specs.Prelude.{◌≡◌, ℕ, ◌+◌, ◌-◌, Bool, not, ◌||◌, nat_lt, nat_le, ◌==◌, nat_eq, is_some, codes, if◌then◌else◌, List, [], ◌∷◌, ◌++◌, length, slice_range, option_map, Option, Some, None, Result, Ok, Err}
 use Rattle.std.specs.Result.{result_unwrap_or}
 use Rattle.std.specs.Cmp.Lexicographic.{pointwise}
 use Rattle.mc_ebml.specs.Element.{uint_of, text_of}
@@ -11,10 +11,10 @@ use Rattle.mc_tracks.specs.declared.children.Master.TheVariants.{EbmlHeader, Inf
 use Rattle.mc_tracks.specs.declared.refused.Refused.{Refused}
 use Rattle.mc_tracks.specs.declared.refused.Refused.TheVariants.{NotEbml, Version, DocType, Broken, NoNumber, TwiceNumber, ScaleZero, TooMany}
 use Rattle.mc_tracks.specs.declared.track.Track.{Track}
-use Rattle.mc_tracks.specs.Ids.{EBML_HEADER, EBML_READ_VERSION, EBML_MAX_ID_LENGTH, EBML_MAX_SIZE_LENGTH, DOC_TYPE, DOC_TYPE_READ_VERSION, TIMESTAMP_SCALE, TRACK_ENTRY, TRACK_NUMBER, TRACK_UID, TRACK_TYPE, CODEC_ID, NAME, LANGUAGE, FLAG_DEFAULT, DEFAULT_DURATION, CONTENT_ENCODINGS}
+use Rattle.mc_ebml.specs.Ids.{EBML_HEADER, EBML_READ_VERSION, EBML_MAX_ID_LENGTH, EBML_MAX_SIZE_LENGTH, DOC_TYPE, DOC_TYPE_READ_VERSION, TIMESTAMP_SCALE, TRACK_ENTRY, TRACK_NUMBER, TRACK_UID, TRACK_TYPE, CODEC_ID, NAME, LANGUAGE, FLAG_DEFAULT, DEFAULT_DURATION, CONTENT_ENCODINGS}
 use Rattle.mc_tracks.specs.Children.{Children, children_of, element_at, first}
 use Rattle.mc_tracks.specs.Answer.{◌>>=◌}
-use Rattle.mc_tracks.specs.TrackList.{numbered}
+use Rattle.mc_tracks.specs.TrackList.{numbered, IsTrackList}
 
 -- ---- what a child stands for
 
@@ -26,6 +26,10 @@ abbrev pub integer : List ℕ → ℕ → Option Child → ℕ
 integer octets otherwise None = otherwise
 integer octets otherwise (Some c) =
     if c.at == c.stop then otherwise else result_unwrap_or (uint_of (body_of octets c)) otherwise
+
+-- the same in the first child of an ID in a TrackEntry
+abbrev pub entry_integer : List ℕ → ℕ → ℕ → ℕ
+entry_integer body id otherwise = integer body otherwise (first id (children_of TrackEntry body).whole)
 
 -- a text, or its default where it is missing; one that is not UTF-8 or longer than 65,536 octets is taken as empty
 abbrev pub text : List ℕ → List ℕ → Option Child → List ℕ
@@ -136,3 +140,7 @@ tracks_among body at tracks cs = do
 -- the tracks of a Tracks whose body begins at an offset of the file
 unfoldable pub tracks_of : List ℕ → ℕ → Result (List Track) Refused
 tracks_of body at = tracks_among body at [] (children_of Tracks body)
+
+-- they are always such a list
+abbrev pub TracksAreListed : Type 0
+TracksAreListed = (body : List ℕ) (at : ℕ) (tracks : List Track) → tracks_of body at ≡ Ok tracks → IsTrackList tracks

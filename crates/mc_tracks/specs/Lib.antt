@@ -1,5 +1,5 @@
-pub mod Ids
 pub mod Children
 pub mod Answer
 pub mod Header
 pub mod TrackList
+pub mod Selection

@@ -1,6 +1,7 @@
 -- What is asked of a list of tracks.
-use Rattle.std.specs.Prelude.{◌≢◌, ℕ, zero, suc, ◌<◌, ◌≤◌, Bool, true, false, not, ◌&&◌, ◌==◌, nat_eq, List, map, filter, find, slice_get, length, All, Option, Some, None, option_map}
+use Rattle.std.specs.Prelude.{◌≡◌, ◌≢◌, ℕ, zero, suc, ◌<◌, ◌≤◌, Bool, true, false, not, ◌&&◌, ◌==◌, nat_eq, List, map, filter, find, slice_get, slice_index_or, take, length, All, Option, Some, None, option_map, IfSome}
 use Rattle.std.specs.List.{IsDistinct}
+use Rattle.std.specs.Str.{IsUtf8}
 use Rattle.mc_packet.specs.declared.choice.Kind.{Kind}
 use Rattle.mc_packet.specs.declared.choice.Kind.TheVariants.{Video, Audio, Sub}
 use Rattle.mc_packet.specs.declared.choice.Choice.{Choice}
@@ -14,16 +15,18 @@ numbered n tracks = find (λ (t : Track). n == t.no) tracks
 abbrev pub HaveDistinctNumbers : List Track → Type 0
 HaveDistinctNumbers tracks = IsDistinct nat_eq (map (λ (t : Track). t.no) tracks)
 
--- a text of at most 65,536 octets, none of which is zero
+-- a UTF-8 text of at most 65,536 octets, none of which is zero
 pub record IsPlainText (octets : List ℕ) : Type 0 where
   pub short : length octets ≤ 65536
   pub no_zero : All (λ b. b ≢ 0) octets
+  pub utf8 : IsUtf8 octets
 
 pub record IsListed (t : Track) : Type 0 where
   pub positive : 0 < t.no
   pub codec : IsPlainText t.codec
   pub name : IsPlainText t.name
   pub language : IsPlainText t.language
+  pub duration : IfSome t.duration (λ n. 0 < n)
 
 -- what every film's list of tracks is, over any octets
 pub record IsTrackList (tracks : List Track) : Type 0 where
@@ -58,11 +61,16 @@ abbrev pub or_else : Option Track → Option Track → Option Track
 or_else (Some t) other = Some t
 or_else None other = other
 
+-- a track of a kind that is not encoded, and one that is default besides
+abbrev pub is_playable : Kind → Track → Bool
+is_playable kind t = is_of kind t.kind && not t.encoded
+
+abbrev pub is_default : Kind → Track → Bool
+is_default kind t = is_of kind t.kind && not t.encoded && t.default
+
 -- the first track of a kind that is default and not encoded, else the first that is not encoded
 abbrev pub preferred : Kind → List Track → Option Track
-preferred kind tracks = or_else
-    (find (λ (t : Track). is_of kind t.kind && not t.encoded && t.default) tracks)
-    (find (λ (t : Track). is_of kind t.kind && not t.encoded) tracks)
+preferred kind tracks = or_else (find (is_default kind) tracks) (find (is_playable kind) tracks)
 
 abbrev pub number_of : Option Track → Option ℕ
 number_of found = option_map (λ (t : Track). t.no) found
@@ -71,3 +79,8 @@ number_of found = option_map (λ (t : Track). t.no) found
 unfoldable pub default_choice_of : List Track → Choice
 default_choice_of tracks =
     record { video = number_of (preferred Video tracks); audio = number_of (preferred Audio tracks); sub = None }
+
+-- in a list of distinct numbers that of each track is none of those before it
+abbrev pub NumbersAreNew : Type 0
+NumbersAreNew = (tracks : List Track) (i : ℕ) (t : Track) → i < length tracks → t ≡ slice_index_or tracks i t
+    → HaveDistinctNumbers tracks → numbered t.no (take i tracks) ≡ None

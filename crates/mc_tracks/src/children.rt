@@ -1,15 +1,18 @@
 ghost use Rattle.std.specs.Prelude.{◌≡◌, ◌<◌, ◌≤◌, length, IfSome};
 ghost use Rattle.mc_tracks.specs.Children.{element_at, is_integer, child_at, children_of, first, LiesIn};
 
-use crate::ids;
-use mc_ebml::{Size, read_head};
+use mc_ebml::{Size, ids, read_head};
 
 /// An element whose children are read.
 #[derive(Clone, Copy, Debug, PartialEq, Eq)]
 pub enum Master {
+    /// The EBML header (RFC 8794, section 11.2).
     EbmlHeader,
+    /// Info (RFC 9559, section 5.1.2).
     Info,
+    /// Tracks (RFC 9559, section 5.1.4).
     Tracks,
+    /// A TrackEntry (RFC 9559, section 5.1.4.1).
     TrackEntry,
 }
 
@@ -46,13 +49,16 @@ fn is_entry_integer(id: u32) -> bool
         || id == ids::DEFAULT_DURATION
 }
 
-/// An element that stands whole in the octets that are read: its ID with the marker bit, the
-/// offset at which it begins, and those at which its body begins and ends.
+/// An element that stands whole in the octets that are read. Its offsets are counted in those.
 #[derive(Clone, Copy, Debug, PartialEq, Eq)]
 pub struct Child {
+    /// Its ID with the marker bit.
     pub id: u32,
+    /// The offset at which it begins.
     pub place: usize,
+    /// The offset at which its body begins.
     pub at: usize,
+    /// The offset at which its body ends.
     pub stop: usize,
 }
 

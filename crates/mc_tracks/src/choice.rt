@@ -1,7 +1,6 @@
-ghost use Rattle.std.specs.Prelude.{◌≡◌, ◌&&◌, not, find, option_map};
+ghost use Rattle.std.specs.Prelude.{◌≡◌, find};
 ghost use Rattle.std.specs.Option.{option_copied};
-ghost use Rattle.mc_tracks.specs.declared.track.Track.{Track};
-ghost use Rattle.mc_tracks.specs.TrackList.{is_of, preferred, number_of, default_choice_of};
+ghost use Rattle.mc_tracks.specs.TrackList.{is_default, is_playable, preferred, number_of, default_choice_of};
 
 use crate::list::{TrackList, is_of};
 use crate::track::Track;
@@ -32,14 +31,14 @@ fn preferred(tracks: &[Track], kind: Kind) -> Option<TrackNo>
 
 // The first track of a kind that is default and not encoded.
 fn first_default(tracks: &[Track], kind: Kind) -> Option<&Track>
-    ensures { option_copied result ≡ find (λ (t : Track). is_of kind t.kind && not t.encoded && t.default) tracks.now }
+    ensures { option_copied result ≡ find (is_default kind) tracks.now }
 {
     tracks.iter().find(|track| is_of(kind, track.kind) && !track.encoded && track.default)
 }
 
 // The first track of a kind that is not encoded.
 fn first_readable(tracks: &[Track], kind: Kind) -> Option<&Track>
-    ensures { option_copied result ≡ find (λ (t : Track). is_of kind t.kind && not t.encoded) tracks.now }
+    ensures { option_copied result ≡ find (is_playable kind) tracks.now }
 {
     tracks
         .iter()

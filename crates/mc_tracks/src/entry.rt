@@ -1,14 +1,14 @@
 ghost use Rattle.std.specs.Prelude.{◌≡◌, ◌+◌, ◌<◌, ◌^◌, length, IfOk};
 ghost use Rattle.mc_tracks.specs.Answer.{Gives};
-ghost use Rattle.mc_tracks.specs.Children.{children_of, first};
-ghost use Rattle.mc_tracks.specs.Ids.{TRACK_NUMBER};
-ghost use Rattle.mc_tracks.specs.Header.{integer, kind_of, positive_number, duration, track, entry_of};
+ghost use Rattle.mc_tracks.specs.Children.{children_of};
+ghost use Rattle.mc_ebml.specs.Ids.{TRACK_NUMBER};
+ghost use Rattle.mc_tracks.specs.Header.{entry_integer, kind_of, positive_number, duration, track, entry_of};
 
 use crate::children::{Master, find_child};
 use crate::fields::{check_children, find_integer, find_text};
-use crate::ids;
 use crate::refused::{Refused, TracksError};
 use crate::track::Track;
+use mc_ebml::ids;
 use mc_packet::{Kind, NoMemory, TrackNo};
 use mc_value::Text;
 use std::alloc::Global;
@@ -31,7 +31,7 @@ pub(crate) fn read_entry(alloc: Global, body: &[u8], at: u64) -> Result<Option<T
 
 // The TrackNumber.
 fn read_number(body: &[u8]) -> Result<TrackNo, Refused>
-    ensures { result ≡ positive_number (integer body.now 0 (first TRACK_NUMBER (children_of Master.TrackEntry body.now).whole)) }
+    ensures { result ≡ positive_number (entry_integer body.now TRACK_NUMBER 0) }
 {
     match find_integer(Master::TrackEntry, body, ids::TRACK_NUMBER, 0) {
         0 => Err(Refused::NoNumber),
@@ -53,7 +53,8 @@ fn kind_of(number: u64) -> Option<Kind>
 
 // The fields of a track.
 fn read_track(alloc: Global, body: &[u8], number: TrackNo, kind: Kind) -> Result<Track, NoMemory>
-    ensures { IfOk result (λ t. t ≡ track body.now (children_of Master.TrackEntry body.now).whole number kind) }
+    ensures { IfOk result
+        (λ t. t ≡ track body.now (children_of Master.TrackEntry body.now).whole number kind) }
 {
     let entry = Master::TrackEntry;
     Ok(Track {

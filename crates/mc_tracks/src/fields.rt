@@ -50,7 +50,8 @@ fn integer_in(body: &[u8], child: Option<Child>, otherwise: u64) -> u64
 // The text in the first child of an ID, or its default where that is missing. A text that is not
 // UTF-8 or too long is taken as empty.
 pub fn find_text<'a>(master: Master, body: &'a [u8], id: u32, otherwise: &'static str) -> &'a str
-    ensures { result.now ≡ text body.now otherwise.now (first id (children_of master body.now).whole) }
+    ensures { let child = first id (children_of master body.now).whole in
+        result.now ≡ text body.now otherwise.now child }
 {
     text_in(body, find_child(master, body, id), otherwise)
 }

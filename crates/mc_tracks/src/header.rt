@@ -4,8 +4,8 @@ ghost use Rattle.mc_tracks.specs.Header.{asks_more, is_matroska, header_checked,
 
 use crate::children::{Child, Master, find_broken, read_element};
 use crate::fields::{body_of, find_integer, find_text};
-use crate::ids;
 use crate::refused::Refused;
+use mc_ebml::ids;
 
 /// The offset behind the EBML header with which a film begins (RFC 8794, section 11.2).
 ///

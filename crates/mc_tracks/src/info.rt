@@ -4,8 +4,8 @@ ghost use Rattle.mc_tracks.specs.Header.{positive_scale, info_of};
 
 use crate::children::Master;
 use crate::fields::{check_children, find_integer};
-use crate::ids;
 use crate::refused::{Refused, TracksError};
+use mc_ebml::ids;
 
 /// The TimestampScale, in nanoseconds, of an Info whose body begins at the offset `at` of the file
 /// (RFC 9559, section 5.1.2.9); without one it is 1,000,000.

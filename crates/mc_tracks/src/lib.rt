@@ -8,8 +8,8 @@ mod choice;
 mod entry;
 mod fields;
 mod header;
-pub mod ids;
 mod info;
+mod law;
 mod list;
 mod refused;
 mod track;
@@ -19,10 +19,8 @@ pub use children::{Child, Master, read_element};
 pub use choice::default_choice;
 pub use header::parse_ebml_header;
 pub use info::parse_info;
+pub use law::{listed_tracks, new_numbers, selected_numbers};
 pub use list::TrackList;
 pub use refused::{Refused, TracksError};
 pub use track::Track;
 pub use tracks::parse_tracks;
-
-#[cfg(test)]
-mod tests;

@@ -11,6 +11,7 @@ use std::marker::Model;
 /// The listed tracks of a film, in the order of their TrackEntries, each under a number of its own.
 #[derive(Debug, Drop)]
 pub struct TrackList {
+    // Each track under its TrackNumber, in the order of the list; `push` alone adds one.
     by_number: IndexMap<TrackNo, Track>,
 }
 
@@ -23,7 +24,8 @@ impl Model for TrackList {
 
     ghost view = { λ l. values l.by_number };
 
-    ghost invariant = { λ l. (keys l.by_number ≡ map (λ (t : Track). t.no) (values l.by_number)) × IsUnique nat_eq l.by_number };
+    ghost invariant = { λ l. (keys l.by_number ≡ map (λ (t : Track). t.no) (values l.by_number))
+        × IsUnique nat_eq l.by_number };
 }
 
 impl TrackList {
@@ -68,7 +70,9 @@ impl TrackList {
         }
     }
 
-    /// Adds a track at the end.
+    /// Adds a track at the end. Its number is none of those that are listed, which `get` tells.
+    ///
+    /// `NoMemory` comes only where the room was not there, and leaves the list as it was.
     pub fn push(&mut self, track: Track) -> Result<(), NoMemory>
         requires { numbered track.no self.old ≡ None }
         ensures ok { OnOk result (self.new ≡ self.old ++ track ∷ []) }
@@ -79,7 +83,8 @@ impl TrackList {
         Ok(())
     }
 
-    /// The `id`-th track of a kind in the order of the list, counted from 1.
+    /// The `id`-th track of a kind in the order of the list, counted from 1, if there is one: its
+    /// number in mpv's `vid`, `aid` and `sid`.
     pub fn of_kind(&self, kind: Kind, id: u32) -> Option<&Track>
         ensures { option_copied result ≡ track_of_kind kind id self.now }
     {

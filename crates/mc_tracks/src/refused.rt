@@ -6,7 +6,8 @@ use std::alloc::{AllocError, AllocFailed};
 /// Why a film is not read. Offsets are in octets from the file's start.
 #[derive(Clone, Copy, Debug, PartialEq, Eq)]
 pub enum Refused {
-    /// The file does not begin with an EBML header that stands whole.
+    /// The file does not begin with an EBML header that stands whole, or a child of it does not, or
+    /// an unsigned integer in it has more than 8 octets.
     NotEbml,
     /// The header asks for a later version of EBML or of Matroska, or for longer IDs or sizes.
     Version,
@@ -18,8 +19,9 @@ pub enum Refused {
     NoInfo,
     /// No Tracks stands before the first Cluster.
     NoTracks,
-    /// The element at this offset has a bad head, has no size, runs past the end of its parent, or
-    /// is an unsigned integer of more than 8 octets.
+    /// The element at this offset has a bad head, has no size, runs past the end of its parent, is
+    /// an unsigned integer of more than 8 octets, or is an Info or a Tracks of more than 16,777,216
+    /// octets.
     Broken(u64),
     /// A TrackEntry whose TrackNumber is missing or 0.
     NoNumber,
@@ -31,10 +33,12 @@ pub enum Refused {
     TooMany,
 }
 
-/// Why tracks are not given: the film is refused, or a call wanted memory that was not there.
+/// Why tracks are not given.
 #[derive(Clone, Copy, Debug, PartialEq, Eq)]
 pub enum TracksError {
+    /// The film is refused.
     Refused(Refused),
+    /// Memory was wanting.
     NoMemory,
 }
 

@@ -20,7 +20,7 @@ pub struct Track {
     pub language: Text,
     /// Whether its FlagDefault is set.
     pub default: bool,
-    /// Its DefaultDuration: how long a frame lasts, in nanoseconds.
+    /// Its DefaultDuration: how long a frame lasts, in nanoseconds; one of 0 counts as none.
     pub duration: Option<u64>,
     /// Whether its blocks are encoded (ContentEncodings), so that they cannot be read.
     pub encoded: bool,

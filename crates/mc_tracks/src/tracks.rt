@@ -7,10 +7,10 @@ ghost use Rattle.mc_tracks.specs.TrackList.{numbered, IsTrackList};
 use crate::children::{Child, Master, read_child};
 use crate::entry::read_entry;
 use crate::fields::body_of;
-use crate::ids;
 use crate::list::TrackList;
 use crate::refused::{Refused, TracksError};
 use crate::track::Track;
+use mc_ebml::ids;
 use std::alloc::Global;
 
 // How many tracks are listed at the most.

@@ -28,7 +28,8 @@ impl LaceReader {
     /// octets stand up to the block's end. `None` exactly where this alone tells `BadLace`: frames
     /// of one size do not fill what is left.
     pub fn new(flags: u8, count: u8, left: u64) -> Option<LaceReader>
-        ensures law { (octets : List ℕ) → length octets ≡ left → is_laced flags ≡ true → Begins flags count octets result }
+        ensures law { (octets : List ℕ) → length octets ≡ left → is_laced flags ≡ true
+            → Begins flags count octets result }
         ensures fits { IfSome result (FitsIn left) }
     {
         match lacing_of(flags) {
@@ -40,7 +41,8 @@ impl LaceReader {
 
     // Before any size.
     fn wanting(lacing: Lacing, wanted: u8) -> LaceReader
-        ensures { result ≡ record { lacing = lacing; wanted = wanted; before = None; claimed = 0 } }
+        ensures { result
+            ≡ record { lacing = lacing; wanted = wanted; before = None; claimed = 0 } }
     {
         LaceReader {
             lacing,
@@ -53,7 +55,8 @@ impl LaceReader {
     /// Whether all sizes are read. The lace is good then.
     pub fn is_done(&self) -> bool
         ensures value { result ≡ (self.now.wanted == 0) }
-        ensures law { (octets : List ℕ) → result ≡ true → FitsIn (length octets) self.now → is_good self.now octets ≡ true }
+        ensures law { (octets : List ℕ) → result ≡ true → FitsIn (length octets) self.now
+            → is_good self.now octets ≡ true }
     {
         self.wanted == 0
     }
@@ -62,7 +65,8 @@ impl LaceReader {
     fn claim(self, size: u128, left: u64) -> Option<LaceReader>
         requires small { size < 2 ^ 100 }
         requires claimed { self.claimed < 2 ^ 64 }
-        ensures value { result ≡ (if nat_le (self.claimed + size) left then Some (record self { claimed = self.claimed + size }) else None) }
+        ensures value { result ≡ (if nat_le (self.claimed + size) left
+            then Some (record self { claimed = self.claimed + size }) else None) }
     {
         let claimed = self.claimed + size;
         if claimed <= left as u128 {
@@ -78,7 +82,8 @@ impl LaceReader {
         requires fits { FitsIn left self }
         requires front { (length front.now ≤ left) × (min 8 left ≤ length front.now) }
         requires lacing { AreOctets self.lacing }
-        ensures law { (octets : List ℕ) → length octets ≡ left → front.now ≡ take (length front.now) octets → ReadsOn self octets result }
+        ensures law { (octets : List ℕ) → length octets ≡ left
+            → front.now ≡ take (length front.now) octets → ReadsOn self octets result }
         ensures fits { IfSome result (λ x. FitsIn (left - x.1) x.0) }
         ensures onward { IfSome result (λ x. (0 < x.1) × (x.1 ≤ length front.now)) }
     {
@@ -98,7 +103,8 @@ impl LaceReader {
         requires fits { FitsIn left self }
         requires front { (length front.now ≤ left) × (min 8 left ≤ length front.now) }
         requires lacing { self.lacing ≡ Lacing.Ebml }
-        ensures law { (octets : List ℕ) → length octets ≡ left → front.now ≡ take (length front.now) octets → ReadsOn self octets result }
+        ensures law { (octets : List ℕ) → length octets ≡ left
+            → front.now ≡ take (length front.now) octets → ReadsOn self octets result }
         ensures fits { IfSome result (λ x. FitsIn (left - x.1) x.0) }
         ensures onward { IfSome result (λ x. (0 < x.1) × (x.1 ≤ length front.now)) }
     {
@@ -117,7 +123,8 @@ impl LaceReader {
         requires wanted { 0 < self.wanted }
         requires fits { FitsIn left self }
         requires front { (length front.now ≤ left) × (min 8 left ≤ length front.now) }
-        ensures law { (octets : List ℕ) → length octets ≡ left → front.now ≡ take (length front.now) octets → ReadsOn self octets result }
+        ensures law { (octets : List ℕ) → length octets ≡ left
+            → front.now ≡ take (length front.now) octets → ReadsOn self octets result }
         ensures fits { IfSome result (λ x. FitsIn (left - x.1) x.0) }
         ensures onward { IfSome result (λ x. (0 < x.1) × (x.1 ≤ length front.now)) }
     {
@@ -137,10 +144,12 @@ impl LaceReader {
     pub fn read(self, front: &[u8], left: u64) -> Option<(LaceReader, usize)>
         requires fits { FitsIn left self }
         requires front { length front.now ≤ left }
-        ensures law { (octets : List ℕ) → length octets ≡ left → front.now ≡ take (length front.now) octets → ReadsOn self octets result }
+        ensures law { (octets : List ℕ) → length octets ≡ left
+            → front.now ≡ take (length front.now) octets → ReadsOn self octets result }
         ensures fits { IfSome result (λ x. FitsIn (left - x.1) x.0) }
         ensures within { IfSome result (λ x. x.1 ≤ length front.now) }
-        ensures onward { 0 < self.wanted → min 8 left ≤ length front.now → IfSome result (λ x. 0 < x.1) }
+        ensures onward { 0 < self.wanted → min 8 left ≤ length front.now
+            → IfSome result (λ x. 0 < x.1) }
     {
         let mut lace = self;
         let mut at = 0;

@@ -12,7 +12,8 @@ pub(crate) type Sizes = Items<u128>;
 // A size in Xiph lacing, and how many octets it takes.
 fn xiph_size(octets: &[u8]) -> Option<(u128, usize)>
     ensures value { front octets.now result ≡ xiph_size octets.now }
-    ensures bounds { IfSome result (λ x. (0 < x.1) × (x.1 ≤ length octets.now) × (x.0 ≤ 255 * x.1)) }
+    ensures bounds { IfSome result
+        (λ x. (0 < x.1) × (x.1 ≤ length octets.now) × (x.0 ≤ 255 * x.1)) }
 {
     let mut size = 0;
     for (i, b) in octets.iter().enumerate() {
@@ -67,7 +68,8 @@ fn difference(coded: Coded) -> i128
 fn changed_size(size: u128, octets: &[u8]) -> Option<(u128, usize)>
     requires { size < 2 ^ 100 }
     ensures value { front octets.now result ≡ changed_size size octets.now }
-    ensures bounds { IfSome result (λ x. (0 < x.1) × (x.1 ≤ length octets.now) × (x.0 ≤ size + 2 ^ 56)) }
+    ensures bounds { IfSome result
+        (λ x. (0 < x.1) × (x.1 ≤ length octets.now) × (x.0 ≤ size + 2 ^ 56)) }
 {
     let coded = read_coded(octets, 0).ok()?;
     let changed = size as i128 + difference(coded);

@@ -1,10 +1,7 @@
-//! A film of 20,000 Clusters, 40 ms apart, each with a keyframe of a video and of an audio track.
-ghost use Rattle.std.specs.Prelude.{◌<◌};
+use std::alloc::{AllocError, Global};
 
-use std::alloc::Global;
-use std::test::Fail;
-
-pub const GROUPS: u32 = 20_000;
+// How many Clusters the film has.
+const GROUPS: u32 = 20_000;
 
 // Up to the first Cluster; the Segment has no known size.
 const HEADER: [u8; 78] = [
@@ -16,26 +13,19 @@ const HEADER: [u8; 78] = [
 ];
 
 // A Cluster of 25 octets at a time in milliseconds: 11 octets, and two blocks of 7.
-fn push_group(film: &mut Vec<u8>, time: u32) -> Result<(), Fail> {
+fn push_group(film: &mut Vec<u8>, time: u32) -> Result<(), AllocError> {
     film.extend_from_slice(&[0x1F, 0x43, 0xB6, 0x75, 0x94, 0xE7, 0x84])?;
     film.extend_from_slice(&time.to_be_bytes())?;
     film.extend_from_slice(&[0xA3, 0x85, 0x81, 0x00, 0x00, 0x80, 0x10])?;
-    film.extend_from_slice(&[0xA3, 0x85, 0x82, 0x00, 0x00, 0x80, 0x20])?;
-    Ok(())
+    film.extend_from_slice(&[0xA3, 0x85, 0x82, 0x00, 0x00, 0x80, 0x20])
 }
 
-pub fn long_film(alloc: Global) -> Result<Vec<u8>, Fail> {
+/// A film of 20,000 Clusters, 40 ms apart, each with a sync point of video track 1 and one of audio
+/// track 2. The first Cluster stands at offset 78, and each takes 25 octets.
+pub fn long_film(alloc: Global) -> Result<Vec<u8>, AllocError> {
     let mut film = Vec::from_slice(alloc, &HEADER)?;
     for group in 0..GROUPS {
         push_group(&mut film, group * 40)?;
     }
     Ok(film)
-}
-
-/// The offset of a group's Cluster.
-pub fn place_of(group: u32) -> u64
-    requires { group < 20000 }
-    ensures { result < 500100 }
-{
-    78 + 25 * (group as u64)
 }

@@ -1,16 +1,9 @@
-//! Tests of the index. Over two short films it is held to the rule of a seek at each time, and over a
-//! film of many groups, which is made here, to what it answers anywhere and how many octets it reads.
-//! The shelf that counts them serves `index_bench` too.
+//! What tries of the index stand on: a shelf that counts the octets it gives, and a film of many
+//! groups. `index_rows` and `index_bench` use them.
 #![tactic(auto)]
 
 mod counting;
-#[cfg(test)]
-mod films;
-#[cfg(test)]
 mod groups;
-#[cfg(test)]
-mod long;
-#[cfg(test)]
-mod rule;
 
 pub use counting::CountingShelf;
+pub use groups::long_film;

@@ -82,12 +82,15 @@ impl Cursor {
     /// chunk has its shape: at most 256 packets of one track, in order and between its marks, with
     /// payloads of at most 67,108,864 octets together.
     pub fn next_chunk<S: Shelf>(&mut self, shelf: &mut S) -> Result<Chunk, CursorError>
+        // the part, and where the cursor stands behind it
         ensures value { IfOk result (λ k. OnFilm S.files S.opened shelf.old self.old
             (λ octets. (k ≡ next_of octets self.old) × StandsFor octets self.new)) }
         ensures moves { IfOk result (λ k. (k.from ≡ mark_of self.old)
             × (self.new ≡ at_mark self.old k.to)) }
         ensures shape { IfOk result HasShape }
+        // after an error
         ensures err { OnErr result (self.new ≡ self.old) }
+        // what is asked of the shelf
         ensures cause { ReadCause (S.faults shelf.old) (S.faults shelf.new) result }
         ensures kept { OnlyReads S.files S.opened S.reach shelf.old shelf.new }
         ensures reach { OnFilm S.files S.opened shelf.old self.old
@@ -106,6 +109,7 @@ impl Cursor {
     /// From the block's offset, at the level of the chunk's end, the same part is read again: that is
     /// a mark of the film.
     pub fn next_head<S: Shelf>(&mut self, shelf: &mut S) -> Result<HeadChunk, CursorError>
+        // the part, and where the cursor stands behind it
         ensures value { IfOk result (λ k. OnFilm S.files S.opened shelf.old self.old
             (λ octets. (k ≡ head_chunk_of (next_of octets self.old)) × StandsFor octets self.new)) }
         ensures marks { IfOk result (λ k. OnFilm S.files S.opened shelf.old self.old
@@ -114,7 +118,9 @@ impl Cursor {
         ensures moves { IfOk result (λ k. (k.from ≡ mark_of self.old)
             × (self.new ≡ at_mark self.old k.to)) }
         ensures onward { IfOk result (λ k. k.ending ≡ None → k.from.pos < k.to.pos) }
+        // after an error
         ensures err { OnErr result (self.new ≡ self.old) }
+        // what is asked of the shelf
         ensures cause { ReadCause (S.faults shelf.old) (S.faults shelf.new) result }
         ensures kept { OnlyReads S.files S.opened S.reach shelf.old shelf.new }
         ensures reach { OnFilm S.files S.opened shelf.old self.old

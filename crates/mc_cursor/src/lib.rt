@@ -15,8 +15,6 @@ mod next;
 mod opening;
 mod reading;
 mod step;
-#[cfg(test)]
-mod tests;
 
 pub use cursor::Cursor;
 pub use error::{CursorError, OpenError};

@@ -157,12 +157,14 @@ pub(crate) fn find_segment<S: Shelf>(
     file: FileNo,
     from: u64,
 ) -> Result<Segment, OpenError>
+    // the Segment
     ensures value { InFile S.files S.opened shelf.old file.0
         (λ octets. from ≤ length octets → Gives result (segment_of octets from)) }
     ensures within { InFile S.files S.opened shelf.old file.0
         (λ octets. from ≤ length octets → IfOk result (λ s. s.opening ≤ length octets)) }
     ensures behind { IfOk result (λ s. 0 < s.opening) }
     ensures onward { IfOk result (λ s. from < s.opening) }
+    // what is asked of the shelf
     ensures near { IfOk result (λ s. S.reach shelf.new ≤ max (S.reach shelf.old) (s.opening + 12)) }
     ensures cause { BeginCause (S.faults shelf.old) (S.faults shelf.new) result }
     ensures kept { OnlyReads S.files S.opened S.reach shelf.old shelf.new }

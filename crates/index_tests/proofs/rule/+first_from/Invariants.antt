@@ -1,5 +1,0 @@
-use Rattle.std.proofs.Common.{length}
-use Rattle.index_tests.proofs.rule.+first_from.Given as goal
-
-abbrev pub decreases-first_from : goal.decreases-first_from
-decreases-first_from l = length l.keys.now

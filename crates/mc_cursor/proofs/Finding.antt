@@ -14,7 +14,7 @@ use Rattle.mc_tracks.specs.declared.children.Child.{Child}
 use Rattle.mc_tracks.specs.declared.refused.Refused.{Refused}
 use Rattle.mc_tracks.specs.declared.refused.Refused.TheVariants.{NoSegment}
 use Rattle.mc_tracks.specs.Children.{element_at, whole_element, known_element, first}
-use Rattle.mc_tracks.specs.Ids.{SEGMENT, CLUSTER}
+use Rattle.mc_ebml.specs.Ids.{SEGMENT, CLUSTER}
 use Rattle.mc_walk.specs.Moves.{runs_past}
 use Rattle.mc_walk.specs.declared.plan.Segment.{Segment}
 use Rattle.mc_walk.specs.Walk.{stands_at}

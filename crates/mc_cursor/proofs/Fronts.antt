@@ -16,7 +16,7 @@ use Rattle.mc_tracks.specs.declared.refused.Refused.TheVariants.{NotEbml}
 use Rattle.mc_tracks.specs.Answer.{◌>>=◌}
 use Rattle.mc_tracks.specs.Children.{whole_element, element_at, children_of}
 use Rattle.mc_tracks.specs.Header.{body_of, as_header, header_checked, ebml_header_of}
-use Rattle.mc_tracks.specs.Ids.{EBML_HEADER}
+use Rattle.mc_ebml.specs.Ids.{EBML_HEADER}
 use Rattle.mc_cursor.specs.declared.reading.Found.{Found}
 use Rattle.mc_cursor.specs.declared.reading.Found.TheVariants as found
 use Rattle.mc_cursor.specs.Reads.{found_at, found_by, moved_by, ends_before, Told}

@@ -9,7 +9,7 @@ use Rattle.mc_tracks.specs.declared.refused.TracksError.{TracksError}
 use Rattle.mc_tracks.specs.declared.refused.TracksError.TheVariants as causes
 use Rattle.mc_tracks.specs.declared.children.Child.{Child}
 use Rattle.mc_tracks.specs.Children.{whole_element}
-use Rattle.mc_tracks.specs.Ids.{EBML_HEADER, INFO, TRACKS}
+use Rattle.mc_ebml.specs.Ids.{EBML_HEADER, INFO, TRACKS}
 use Rattle.mc_walk.specs.declared.plan.Segment.{Segment}
 use Rattle.mc_walk.specs.Opening.{opened_film, first_child}
 use Rattle.mc_cursor.specs.declared.cursor.Cursor.{Cursor}

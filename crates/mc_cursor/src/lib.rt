@@ -4,7 +4,8 @@
 //! `Cursor::begin` answers what `opened_film` of `mc_walk/specs/Opening` says of the file's octets,
 //! and `next_chunk` gives the part that `chunk_at` of `mc_walk/specs/Parts` says stands at its mark;
 //! `specs/Standing` says for which films a cursor stands. It reads an element's head with 12 octets,
-//! a body with its own span, and of what it passes over the last octet.
+//! a body with its own span, and of what it passes over the last octet. A body of more than 4,096
+//! octets is looked at in its last octet first, so that none takes more memory than the file fills.
 #![tactic(auto)]
 
 mod block;

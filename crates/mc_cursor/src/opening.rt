@@ -1,11 +1,10 @@
 ghost use Rattle.std.specs.Prelude.{◌≡◌, ◌≢◌, ◌+◌, ◌-◌, ◌^◌, ◌<◌, ◌≤◌, max, length, slice_range, Option, Some, None, Ok, IsErrOf, IfOk, IfSome};
-ghost use Rattle.mc_ebml.specs.Element.{IsSmall};
 ghost use Rattle.mc_outside.specs.Causes.{HasCause};
 ghost use Rattle.mc_tracks.specs.Children.{element_at, whole_element};
 ghost use Rattle.mc_cursor.specs.declared.reading.Found.TheVariants as found;
 ghost use Rattle.mc_tracks.specs.Header.{ebml_header_of, info_of, tracks_of};
 ghost use Rattle.mc_tracks.specs.TrackList.{IsTrackList};
-ghost use Rattle.mc_walk.specs.Opening.{end_by, segment_of, before_cluster, segment_child, first_child, info_in, tracks_in, info_then_tracks, tracks_then_info, header_by, header_of};
+ghost use Rattle.mc_walk.specs.Opening.{segment_of, segment_child, first_child, info_in, tracks_in, info_then_tracks, tracks_then_info, header_by, header_of};
 ghost use Rattle.mc_walk.specs.Parts.{opening_mark};
 ghost use Rattle.mc_walk.specs.Walk.{stands_at};
 ghost use Rattle.mc_cursor.specs.Standing.{mark_of, file_of};
@@ -16,15 +15,12 @@ ghost use Rattle.mc_cursor.specs.Begins.{BeginCause, Begins, Gives, header_span,
 use crate::cursor::Cursor;
 use crate::error::OpenError;
 use crate::reading::{Found, read_ends_before, read_found, read_front, read_lacks, read_part};
-use mc_ebml::{Head, Size};
+use mc_ebml::{Head, Size, ids};
 use mc_outside::{FileNo, ReadFault, Shelf};
-use mc_packet::{Level, Mark};
-use mc_tracks::{Child, Refused, TrackList, ids, parse_ebml_header, parse_info, parse_tracks};
-use mc_walk::{Header, Segment};
+use mc_packet::{LARGEST_HEADER, Level, Mark};
+use mc_tracks::{Child, Refused, TrackList, parse_ebml_header, parse_info, parse_tracks};
+use mc_walk::{Header, Segment, body_end, child_before_cluster};
 use std::alloc::Global;
-
-// A longer body of Info or Tracks is not read.
-const LARGEST: usize = 16_777_216;
 
 // How many octets tell whether a film begins with an EBML header, and what it says.
 fn header_size(found: Found) -> u64
@@ -76,18 +72,6 @@ pub(crate) fn read_ebml_header<S: Shelf>(
     header_in(front.as_slice())
 }
 
-// Where a body ends, if its size is known.
-fn end_of(at: usize, size: Size) -> Option<u64>
-    requires fits { at < 2 ^ 63 }
-    requires small { IsSmall size }
-    ensures { result ≡ end_by at size }
-{
-    match size {
-        Size::Known(size) => Some(at as u64 + size),
-        Size::Unknown => None,
-    }
-}
-
 // The element at a place whose head was read, where its size is known and the film reaches so far.
 fn read_whole<S: Shelf>(
     shelf: &mut S,
@@ -105,7 +89,7 @@ fn read_whole<S: Shelf>(
     ensures cause { HasCause (S.faults shelf.old) (S.faults shelf.new) result }
     ensures kept { OnlyReads S.files S.opened S.reach shelf.old shelf.new }
 {
-    let Some(stop) = end_of(head.body, head.size) else {
+    let Some(stop) = body_end(head.body, head.size) else {
         return Ok(None);
     };
     if read_ends_before(shelf, file, head.body as u64, stop)? {
@@ -178,7 +162,7 @@ pub(crate) fn find_segment<S: Shelf>(
         if head.id == ids::SEGMENT {
             return Ok(Segment {
                 opening: head.body as u64,
-                end: end_of(head.body, head.size),
+                end: body_end(head.body, head.size),
             });
         }
         match read_element_at(shelf, file, place, found)? {
@@ -218,19 +202,6 @@ fn read_segment_child<S: Shelf>(
     let found = read_found(shelf, file, place)?;
     let child = read_element_at(shelf, file, place, found)?;
     Ok(child_before_cluster(end, child))
-}
-
-fn child_before_cluster(end: Option<u64>, child: Option<Child>) -> Option<Child>
-    ensures value { result ≡ before_cluster end child }
-    ensures same { IfSome result (λ c. child ≡ Some c) }
-{
-    let child = child?;
-    let runs_past = end.is_some_and(|end| end < child.stop as u64);
-    if child.id == ids::CLUSTER || runs_past {
-        None
-    } else {
-        Some(child)
-    }
 }
 
 // The first child of this ID before the first Cluster.
@@ -293,7 +264,7 @@ fn read_info<S: Shelf>(
     ensures kept { OnlyReads S.files S.opened S.reach shelf.old shelf.new }
 {
     let broken = OpenError::Refused(Refused::Broken(child.place as u64));
-    if child.stop - child.at > LARGEST {
+    if (child.stop - child.at) as u64 > LARGEST_HEADER {
         return Err(broken);
     }
     match read_part(alloc, shelf, file, child.at as u64, child.stop as u64)? {
@@ -317,7 +288,7 @@ fn read_tracks<S: Shelf>(
     ensures kept { OnlyReads S.files S.opened S.reach shelf.old shelf.new }
 {
     let broken = OpenError::Refused(Refused::Broken(child.place as u64));
-    if child.stop - child.at > LARGEST {
+    if (child.stop - child.at) as u64 > LARGEST_HEADER {
         return Err(broken);
     }
     match read_part(alloc, shelf, file, child.at as u64, child.stop as u64)? {

@@ -9,6 +9,7 @@ use crate::error::CursorError;
 use bytes::Bytes;
 use mc_ebml::{EbmlError, Head, read_head};
 use mc_outside::{FileNo, ReadFault, Shelf, read_full};
+use mc_packet::FILM_LIMIT;
 use std::alloc::Global;
 
 /// What stands at a place of a film.
@@ -21,9 +22,6 @@ pub(crate) enum Found {
     /// A head that is cut or bad.
     Bad(EbmlError),
 }
-
-// No shelf gives an octet at or past this place.
-const END: u64 = 0x7fff_ffff_ffff_ffff;
 
 // The most octets of a body that is given memory before its last octet is looked at.
 const UNSEEN: u64 = 4_096;
@@ -59,7 +57,7 @@ pub(crate) fn read_found<S: Shelf>(
     ensures cause { HasCause (S.faults shelf.old) (S.faults shelf.new) result }
     ensures kept { OnlyReadsTo S.files S.opened S.reach shelf.old shelf.new (place + 12) }
 {
-    if place >= END {
+    if place >= FILM_LIMIT {
         return Ok(Found::End);
     }
     let mut front = [0u8; 12];

@@ -1,9 +1,7 @@
 -- Which sync point a seek asks for, by those next to its time.
-use Rattle.std.proofs.Common.{◌≡◌, ℕ, Bool, true, false, List, [], ◌∷◌, ◌++◌, Option, Some, None, ℤ, refl, sym, ap, subst, ◌∙◌, ◌⊎◌, inl, inr, arith}
-use Rattle.std.specs.Prelude.{⊤, not, ◌||◌, ◌<ℤ◌, int_le, IfSome, if◌then◌else◌}
-use Rattle.std.proofs.lemmas.Bool.{cond_both}
+use Rattle.std.proofs.Common.{◌≡◌, ℕ, Bool, true, false, List, [], ◌∷◌, ◌++◌, Option, Some, None, ℤ, refl, sym, ap, subst, ◌∙◌, arith}
+use Rattle.std.specs.Prelude.{not, ◌||◌, ◌<ℤ◌, int_le, IfSome, if◌then◌else◌}
 use Rattle.std.specs.Option.{option_map}
-use Rattle.std.specs.List.{AllByRecursion}
 use Rattle.mc_packet.specs.declared.choice.Dir.{Dir}
 use Rattle.mc_packet.specs.declared.choice.Dir.TheVariants.{Back, Forward}
 use Rattle.mc_walk.specs.declared.plan.Plan.{Plan}
@@ -15,7 +13,7 @@ use Rattle.mc_index.specs.declared.search.Around.{Around}
 use Rattle.mc_index.specs.Answers.{IsAround}
 use Rattle.mc_index.specs.Fronts.{any_past, film_points}
 use Rattle.mc_index.specs.Scans.{point_of}
-use Rattle.mc_index.specs.Searches.{IsNear, Rises, chosen, is_at, point_time}
+use Rattle.mc_index.specs.Searches.{IsNear, Rises, chosen, point_time}
 use Rattle.mc_index.proofs.Timing.{rise-front, rise-back, none-past, IsUpto}
 
 abbrev IsPast : ℤ → Option Told → Type 0

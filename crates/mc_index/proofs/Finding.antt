@@ -1,19 +1,17 @@
 -- What a look-up of one track after the other comes to.
-use Rattle.std.proofs.Common.{◌≡◌, ℕ, ◌≤◌, Bool, List, Option, Some, None, ℤ, refl, sym, ap, subst, ◌∙◌, arith}
+use Rattle.std.proofs.Common.{◌≡◌, ℕ, Bool, List, Option, Some, None, ℤ, subst, arith}
 use Rattle.std.specs.Prelude.{◌&&◌}
 use Rattle.mc_packet.specs.declared.packet.Packet.{Packet}
 use Rattle.mc_packet.specs.declared.choice.Choice.{Choice}
 use Rattle.mc_packet.specs.declared.choice.Dir.{Dir}
 use Rattle.mc_packet.specs.declared.choice.Dir.TheVariants.{Back}
-use Rattle.mc_packet.specs.declared.choice.Starts.{Starts}
 use Rattle.mc_walk.specs.declared.plan.Plan.{Plan}
 use Rattle.mc_cursor.specs.declared.cursor.Cursor.{Cursor}
 use Rattle.mc_cursor.specs.Standing.{plan_for, mark_of, at_mark}
-use Rattle.mc_journal.specs.Films.{IsRegular, is_listed, time_or, video_sync, audio_dir, film_syncs, start_of, switch_start}
-use Rattle.mc_journal.specs.Choices.{is_known, passes}
+use Rattle.mc_journal.specs.Films.{time_or, video_sync, audio_dir, film_syncs}
 use Rattle.mc_index.specs.declared.search.Around.{Around}
-use Rattle.mc_index.specs.Answers.{AreOfBlocks, AreFor, AreStarts, SeekStarts, SwitchStarts, SeekReads, SwitchReads, ReadsUntil, seek_shown, switch_shown, shows, needed_lead, is_lead}
-use Rattle.mc_index.specs.Fronts.{film_told, known_in}
+use Rattle.mc_index.specs.Answers.{AreOfBlocks, AreFor, SeekStarts, SwitchStarts, SeekReads, SwitchReads, ReadsUntil, shows, needed_lead}
+use Rattle.mc_index.specs.Fronts.{film_told}
 use Rattle.mc_index.specs.Searches.{IsNear, Rises, NearReads, chosen, reference, seek_of, switch_of}
 use Rattle.mc_index.proofs.Placing.{near-known, near-before_known, seek-placed, switch-placed, seek-for, switch-for}
 use Rattle.mc_index.proofs.Ruling.{listed-rises, video-rises, audio-rises, seek-time, seek-starts, switch-starts, near-last, reads-first, reads-then}

@@ -1,5 +1,5 @@
 -- What a film's parts are, and what stands before a mark up to which it was read.
-use Rattle.std.proofs.Common.{◌≡◌, ℕ, zero, suc, ◌+◌, ◌-◌, ◌<◌, ◌≤◌, Bool, true, false, List, [], ◌∷◌, ◌++◌, length, Option, Some, None, refl, sym, ap, subst, ◌∙◌, ◌⊎◌, inl, inr, append_assoc, add-one, arith}
+use Rattle.std.proofs.Common.{◌≡◌, ℕ, zero, suc, ◌<◌, ◌≤◌, List, [], ◌∷◌, ◌++◌, length, Option, Some, None, refl, sym, ap, subst, ◌∙◌, inl, inr, append_assoc, arith}
 use Rattle.std.proofs.lemmas.Bool.{cond_both, cases_lt, eqb-true}
 use Rattle.std.specs.Prelude.{⊤, ◌==◌}
 use Rattle.mc_packet.specs.declared.packet.Packet.{Packet}
@@ -10,7 +10,7 @@ use Rattle.mc_walk.specs.declared.plan.Plan.{Plan}
 use Rattle.mc_walk.specs.declared.plan.Step.{Step}
 use Rattle.mc_walk.specs.declared.plan.Step.TheVariants.{End, On}
 use Rattle.mc_walk.specs.Walk.{step_at, steps, walk, Rises, Rest, in_front, film_walk}
-use Rattle.mc_walk.specs.Parts.{mark, opening_mark, Part, part, part_after, part_at, place_of, level_of, joined_after, IsMark}
+use Rattle.mc_walk.specs.Parts.{Part, part, part_after, part_at, place_of, level_of, joined_after, IsMark}
 use Rattle.mc_walk.specs.Parts.IsMark.{at_end, at_opening as opening_is_mark}
 use Rattle.mc_walk.proofs.Rising.{step-rises}
 use Rattle.mc_walk.proofs.Enough.{part-to, EndsOnward}

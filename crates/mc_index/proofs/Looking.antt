@@ -1,15 +1,14 @@
 -- A look-up that reads on, from what it knows at a mark.
-use Rattle.std.proofs.Common.{◌≡◌, ℕ, ◌+◌, ◌<◌, ◌≤◌, Bool, true, false, List, [], ◌∷◌, ◌++◌, Option, Some, None, ℤ, refl, sym, ap, subst, ◌∙◌, ◌⊎◌, inl, inr, append_assoc, arith}
+use Rattle.std.proofs.Common.{◌≡◌, ℕ, ◌+◌, Bool, true, false, List, [], ◌∷◌, ◌++◌, Option, Some, None, ℤ, refl, sym, ap, subst, ◌∙◌, inl, inr, append_assoc, arith}
 use Rattle.std.proofs.lemmas.Bool.{cases_lt}
-use Rattle.std.specs.Prelude.{⊤, ◌==◌, ◌&&◌, max, int_le, IfSome, if◌then◌else◌}
+use Rattle.std.specs.Prelude.{◌==◌, ◌&&◌, int_le, if◌then◌else◌}
 use Rattle.std.specs.Option.{option_map}
 use Rattle.mc_packet.specs.declared.packet.Packet.{Packet}
 use Rattle.mc_packet.specs.declared.walk.Ending.{Ending}
 use Rattle.mc_packet.specs.declared.walk.Mark.{Mark}
 use Rattle.mc_walk.specs.declared.plan.Plan.{Plan}
-use Rattle.mc_walk.specs.Glances.{first_mark}
-use Rattle.mc_walk.specs.Parts.{Part, part_at, chunk_at}
-use Rattle.mc_walk.specs.Walk.{film_walk, Rest}
+use Rattle.mc_walk.specs.Parts.{part_at, chunk_at}
+use Rattle.mc_walk.specs.Walk.{Rest}
 use Rattle.mc_cursor.specs.declared.head.HeadChunk.{HeadChunk}
 use Rattle.mc_cursor.specs.Heads.{head_chunk_of}
 use Rattle.mc_cursor.specs.Standing.{ReadsPart}
@@ -17,19 +16,18 @@ use Rattle.mc_journal.specs.Choices.{or_else}
 use Rattle.mc_journal.specs.Films.{TimesRise, first, last, syncs}
 use Rattle.mc_journal.specs.Told.{Told, told}
 use Rattle.mc_index.specs.declared.entry.Point.{Point}
-use Rattle.mc_index.specs.declared.search.Around.{Around}
 use Rattle.mc_index.specs.declared.search.Since.{Since}
 use Rattle.mc_index.specs.declared.search.Found.{Found}
 use Rattle.mc_index.specs.declared.search.Found.TheVariants as found
-use Rattle.mc_index.specs.Answers.{IsAround, ReadsUntil, shows}
+use Rattle.mc_index.specs.Answers.{IsAround}
 use Rattle.mc_index.specs.Entries.{is_upto, track_point}
-use Rattle.mc_index.specs.Fronts.{Front, told_all, film_told, film_points, any_past}
+use Rattle.mc_index.specs.Fronts.{Front, told_all, film_points, any_past}
 use Rattle.mc_index.specs.Fronts.Front.{read_on}
 use Rattle.mc_index.specs.Scans.{IsPlan, point_of, last_point}
 use Rattle.mc_index.specs.Searches.{IsSince, found_point, unless_ended, found_by, NearReads}
-use Rattle.mc_index.proofs.Fronts.{front-whole, front-ended, rest_from, part-at, IsLater, front-later, IsSame, front-same}
+use Rattle.mc_index.proofs.Fronts.{front-whole, front-ended, rest_from, part-at, IsLater, front-later, front-same}
 use Rattle.mc_index.proofs.Noting.{syncs-append, shown, syncs-shown, point-is, point-on}
-use Rattle.mc_index.proofs.Timing.{rise-front, past-front, none-past, IsUpto, upto-point, past-point}
+use Rattle.mc_index.proofs.Timing.{rise-front, past-front, none-past, upto-point, past-point}
 
 -- ---- what a head told
 

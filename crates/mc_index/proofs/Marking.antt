@@ -1,19 +1,17 @@
 -- The mark at the block of a part.
-use Rattle.std.proofs.Common.{◌≡◌, ℕ, zero, suc, ◌+◌, ◌-◌, ◌<◌, ◌≤◌, Bool, true, false, List, [], ◌∷◌, ◌++◌, length, Option, Some, None, refl, sym, ap, subst, ◌∙◌, add-one, arith}
+use Rattle.std.proofs.Common.{◌≡◌, ℕ, suc, ◌+◌, ◌-◌, ◌<◌, ◌≤◌, true, false, List, [], ◌∷◌, None, refl, sym, ap, ◌∙◌, arith}
 use Rattle.std.proofs.lemmas.Bool.{cond_both, ne_eqb, eq-eqb, eqb-true}
-use Rattle.std.specs.Prelude.{⊤, ◌==◌}
+use Rattle.std.specs.Prelude.{◌==◌}
 use Rattle.mc_packet.specs.declared.packet.Packet.{Packet}
-use Rattle.mc_packet.specs.declared.walk.Level.{Level}
-use Rattle.mc_packet.specs.declared.walk.Level.TheVariants as levels
 use Rattle.mc_packet.specs.declared.walk.Mark.{Mark}
 use Rattle.mc_walk.specs.declared.plan.Plan.{Plan}
 use Rattle.mc_walk.specs.Walk.{steps}
-use Rattle.mc_walk.specs.Parts.{mark, opening_mark, Part, part_at, place_of}
+use Rattle.mc_walk.specs.Parts.{mark, opening_mark, part_at, place_of}
 use Rattle.mc_walk.proofs.Joining.{place-of}
 use Rattle.mc_index.specs.Fronts.{Front, stands_first, level_from, mark_at}
 use Rattle.mc_index.specs.Fronts.Front.{at_opening, read_on}
 use Rattle.mc_index.specs.Scans.{IsPlan}
-use Rattle.mc_index.proofs.Fronts.{StartsIn, IsPart, front-lies, front-count, part-at, part-onward, mark-under, front-opens}
+use Rattle.mc_index.proofs.Fronts.{StartsIn, front-lies, front-count, part-at, part-onward, mark-under, front-opens}
 
 -- a block behind a part is not that part's
 not-first : (from to place : ℕ) (ps : List Packet) → StartsIn from to ps → to ≤ place → stands_first place ps ≡ false

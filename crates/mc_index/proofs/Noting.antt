@@ -1,17 +1,15 @@
 -- What a head tells of each track, and what is known of it once that is noted.
-use Rattle.std.proofs.Common.{◌≡◌, ℕ, ◌+◌, ◌<◌, Bool, true, false, List, [], ◌∷◌, ◌++◌, map, Option, Some, None, ℤ, refl, sym, ap, subst, ◌∙◌, arith}
-use Rattle.std.proofs.lemmas.Bool.{cond_both}
+use Rattle.std.proofs.Common.{◌≡◌, ℕ, ◌+◌, Bool, true, false, List, [], ◌∷◌, ◌++◌, map, Option, Some, None, refl, sym, ap, subst, ◌∙◌}
 use Rattle.std.proofs.lemmas.List.{map-append}
 use Rattle.std.proofs.lemmas.List.Elements.{filter-append}
-use Rattle.std.specs.Prelude.{⊤, ◌==◌, ◌&&◌, if◌then◌else◌}
+use Rattle.std.specs.Prelude.{◌==◌, ◌&&◌, if◌then◌else◌}
 use Rattle.std.specs.Option.{option_map}
-use Rattle.std.specs.List.{filter}
 use Rattle.mc_packet.specs.declared.packet.Packet.{Packet}
 use Rattle.mc_packet.specs.declared.walk.Mark.{Mark}
 use Rattle.mc_walk.specs.declared.front.BlockMark.{BlockMark}
 use Rattle.mc_walk.specs.declared.plan.Plan.{Plan}
 use Rattle.mc_walk.specs.Glances.{block_mark, first_mark}
-use Rattle.mc_walk.specs.Parts.{mark, Part, part_at, chunk_at}
+use Rattle.mc_walk.specs.Parts.{mark, part_at, chunk_at}
 use Rattle.mc_cursor.specs.declared.head.HeadChunk.{HeadChunk}
 use Rattle.mc_cursor.specs.Heads.{head_chunk_of}
 use Rattle.mc_journal.specs.Choices.{or_else}
@@ -72,7 +70,7 @@ one-shown : (f : Told → Point) (b : Bool) (p : Told) (x : Point) → f p ≡ x
 one-shown f true p x e = ap Some (sym e)
 one-shown f false p x e = refl
 
--- the keyframe of a head is the last sync point of its packets, and its mark the one at its block
+-- the sync point of a head is the last sync point of its packets, and its mark the one at its block
 point-by : (plan : Plan) (k : HeadChunk) (track : ℕ) (ps : List Packet) → AreSynced ps
     → ((q : Packet) (qs : List Packet) → ps ≡ q ∷ qs → mark_at plan q.pos.block ≡ mark q.pos.block k.to.level)
     → track_point track k (first_mark ps) ≡ option_map (point_of plan) (last (shown track ps))

@@ -1,24 +1,21 @@
 -- What the answered starts are: blocks of the film with their marks, on any film, and on a regular one those of the rule.
-use Rattle.std.proofs.Common.{◌≡◌, ℕ, Bool, true, false, List, [], ◌∷◌, ◌++◌, Option, Some, None, ℤ, refl, sym, ap, subst, ◌∙◌, ◌⊎◌, inl, inr, arith, min}
-use Rattle.std.proofs.lemmas.Bool.{cond_both, eq-eqb, cases_Bool}
+use Rattle.std.proofs.Common.{◌≡◌, ℕ, Bool, true, false, List, [], ◌∷◌, ◌++◌, Option, Some, None, ℤ, refl, sym, ap, subst, ◌∙◌, inl, inr, arith, min}
+use Rattle.std.proofs.lemmas.Bool.{cond_both, cases_Bool}
 use Rattle.std.proofs.lemmas.Bool.Decides.{nat_tests}
 use Rattle.std.proofs.lemmas.List.Elements.{Contains-append_left, Contains-append_right, Contains-push}
-use Rattle.std.specs.Prelude.{⊤, ◌==◌, ◌&&◌, ◌||◌, not, nat_le, IfSome, is_some, if◌then◌else◌, Contains}
+use Rattle.std.specs.Prelude.{◌==◌, ◌&&◌, nat_le, IfSome, is_some, if◌then◌else◌, Contains}
 use Rattle.std.specs.Option.{option_map, option_map_or}
 use Rattle.std.specs.List.{AllByRecursion, filter}
 use Rattle.mc_packet.specs.declared.choice.Choice.{Choice}
-use Rattle.mc_packet.specs.declared.choice.Kind.{Kind}
-use Rattle.mc_packet.specs.declared.choice.Kind.TheVariants.{Video, Audio, Sub}
 use Rattle.mc_packet.specs.declared.choice.Dir.{Dir}
 use Rattle.mc_packet.specs.declared.choice.Dir.TheVariants.{Back, Forward}
-use Rattle.mc_packet.specs.declared.choice.Starts.{Starts}
 use Rattle.mc_packet.specs.declared.packet.Packet.{Packet}
 use Rattle.mc_packet.specs.declared.walk.Mark.{Mark}
 use Rattle.mc_walk.specs.declared.plan.Plan.{Plan}
 use Rattle.mc_walk.specs.Parts.{opening_mark}
 use Rattle.mc_walk.specs.Walk.{film_walk}
 use Rattle.mc_journal.specs.Choices.{or_else}
-use Rattle.mc_journal.specs.Films.{first, last, syncs}
+use Rattle.mc_journal.specs.Films.{first, last}
 use Rattle.mc_journal.specs.Told.{Told, told}
 use Rattle.mc_journal.specs.Used.{least_start, place_of_starts}
 use Rattle.mc_index.specs.declared.entry.Point.{Point}
@@ -26,7 +23,7 @@ use Rattle.mc_index.specs.declared.search.Around.{Around}
 use Rattle.mc_index.specs.Answers.{IsAround, IsStart, AreOfBlocks, AreFor}
 use Rattle.mc_index.specs.Fronts.{told_all, film_told, film_points, mark_at}
 use Rattle.mc_index.specs.Scans.{point_of}
-use Rattle.mc_index.specs.Searches.{IsNear, chosen, is_at, point_mark, track_mark, least_mark, mark_or_opening, start_by, starts_by, sub_mark, seek_starts, switch_starts}
+use Rattle.mc_index.specs.Searches.{IsNear, chosen, is_at, track_mark, least_mark, mark_or_opening, start_by, starts_by, sub_mark, seek_starts, switch_starts}
 use Rattle.mc_index.proofs.Marking.{mark-pos}
 
 -- ---- the film's packets
@@ -66,7 +63,7 @@ first-all : (P : Told → Type 0) (xs : List Told) → AllByRecursion P xs → I
 first-all P [] all = tt
 first-all P (x ∷ xs) all = all.0
 
--- ---- keyframes of the film
+-- ---- sync points of the film
 
 -- the mark at a place where the film has a block, or the opening mark
 pub record IsPlaced (plan : Plan) (m : Mark) : Type 0 where

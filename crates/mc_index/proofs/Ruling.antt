@@ -1,7 +1,7 @@
 -- On a regular film the answered starts are those of the rule, and reads end by the places where it is settled.
-use Rattle.std.proofs.Common.{◌≡◌, ℕ, ◌+◌, ◌≤◌, Bool, true, false, List, Option, Some, None, ℤ, refl, sym, ap, subst, ◌∙◌, arith, min}
-use Rattle.std.proofs.lemmas.Bool.{eq-eqb, eqb-true, ne_eqb}
-use Rattle.std.specs.Prelude.{⊤, max, ◌==◌, ◌&&◌, not, if◌then◌else◌}
+use Rattle.std.proofs.Common.{◌≡◌, ℕ, Bool, true, false, List, Option, Some, None, ℤ, refl, sym, ap, subst, ◌∙◌, arith}
+use Rattle.std.proofs.lemmas.Bool.{eq-eqb, ne_eqb}
+use Rattle.std.specs.Prelude.{◌==◌, ◌&&◌, not}
 use Rattle.std.specs.Option.{option_map}
 use Rattle.mc_packet.specs.declared.choice.Choice.{Choice}
 use Rattle.mc_packet.specs.declared.choice.Kind.{Kind}
@@ -9,7 +9,6 @@ use Rattle.mc_packet.specs.declared.choice.Kind.TheVariants.{Video, Audio, Sub}
 use Rattle.mc_packet.specs.declared.choice.Dir.{Dir}
 use Rattle.mc_packet.specs.declared.choice.Dir.TheVariants.{Back}
 use Rattle.mc_packet.specs.declared.packet.Packet.{Packet}
-use Rattle.mc_packet.specs.declared.walk.Mark.{Mark}
 use Rattle.mc_walk.specs.declared.plan.Plan.{Plan}
 use Rattle.mc_journal.specs.Choices.{passes, is_known, is_distinct, is_other, is_track}
 use Rattle.mc_journal.specs.Films.{IsRegular, is_listed, block_of, time_or, sync_for, track_sync, video_sync, audio_sync, audio_dir, least_of, start_of, last_for, switch_start, film_syncs}
@@ -18,10 +17,10 @@ use Rattle.mc_journal.specs.Told.{Told}
 use Rattle.mc_journal.proofs.Starting.{video_listed, audio_listed}
 use Rattle.mc_index.specs.declared.entry.Point.{Point}
 use Rattle.mc_index.specs.declared.search.Around.{Around}
-use Rattle.mc_index.specs.Answers.{AreStarts, ReadsUntil, shows}
-use Rattle.mc_index.specs.Fronts.{Front, film_told, film_points, known_in}
+use Rattle.mc_index.specs.Answers.{AreStarts, ReadsUntil}
+use Rattle.mc_index.specs.Fronts.{film_told, film_points, known_in}
 use Rattle.mc_index.specs.Scans.{point_of}
-use Rattle.mc_index.specs.Searches.{IsNear, Rises, NearReads, chosen, point_time, point_mark, track_mark, least_mark, mark_or_opening, start_by, sub_mark, seek_starts, switch_starts}
+use Rattle.mc_index.specs.Searches.{IsNear, Rises, chosen, point_time, point_mark, track_mark, least_mark, mark_or_opening, start_by, sub_mark, seek_starts, switch_starts}
 use Rattle.mc_index.proofs.Choosing.{near-chosen, near-before, time-of}
 use Rattle.mc_index.proofs.Marking.{mark-pos}
 use Rattle.mc_index.proofs.Placing.{min-by}

@@ -1,21 +1,19 @@
 -- An index that stands for a film, new and read on, and the places that it knows.
-use Rattle.std.proofs.Common.{◌≡◌, ℕ, ◌+◌, ◌<◌, Bool, true, false, List, [], ◌∷◌, ◌++◌, map, Option, Some, None, ℤ, refl, sym, ap, subst, ◌∙◌, arith}
+use Rattle.std.proofs.Common.{◌≡◌, ℕ, Bool, true, false, List, [], ◌∷◌, map, Option, Some, None, ℤ, refl, sym, ap, subst, ◌∙◌}
 use Rattle.std.proofs.lemmas.Bool.{eqb-true}
-use Rattle.std.proofs.lemmas.List.Elements.{All-nil, All-append, All-contains}
-use Rattle.std.specs.Prelude.{◌==◌, find, if◌then◌else◌, All, Contains}
+use Rattle.std.specs.Prelude.{◌==◌, find, if◌then◌else◌}
 use Rattle.mc_packet.specs.declared.packet.Packet.{Packet}
 use Rattle.mc_packet.specs.declared.walk.Mark.{Mark}
 use Rattle.mc_tracks.specs.declared.track.Track.{Track}
 use Rattle.mc_walk.specs.declared.plan.Plan.{Plan}
 use Rattle.mc_walk.specs.Parts.{opening_mark}
-use Rattle.mc_index.specs.declared.entry.Point.{Point}
 use Rattle.mc_index.specs.declared.entry.LastSync.{LastSync}
 use Rattle.mc_index.specs.declared.entry.Entry.{Entry}
 use Rattle.mc_index.specs.declared.search.Since.{Since}
 use Rattle.mc_index.specs.Entries.{unread, is_upto}
 use Rattle.mc_index.specs.Fronts.{Front, leads_of}
 use Rattle.mc_index.specs.Fronts.Front.{at_opening}
-use Rattle.mc_index.specs.Scans.{last_point, last_sync, IsEntry}
+use Rattle.mc_index.specs.Scans.{last_sync, IsEntry}
 use Rattle.mc_index.specs.Searches.{since_of, since_in, IsSince}
 
 -- nothing is read yet

@@ -1,5 +1,5 @@
 -- Of the packets of a block element only the first can be a sync point, and it is one where the block is a keyframe.
-use Rattle.std.proofs.Common.{◌≡◌, ℕ, ◌+◌, ◌<◌, ◌≤◌, Bool, true, false, List, [], ◌∷◌, length, Option, Some, None, Result, Ok, Err, refl, sym, ◌∙◌, arith}
+use Rattle.std.proofs.Common.{◌≡◌, ℕ, ◌+◌, ◌<◌, Bool, true, false, List, [], ◌∷◌, length, Option, Some, None, Result, Ok, Err, refl, arith}
 use Rattle.std.proofs.lemmas.Bool.{cond_both, ne_eqb}
 use Rattle.std.specs.Prelude.{IfOk, ⊤, ◌&&◌, ◌||◌, ◌==◌, drop, nat_lt, slice_range}
 use Rattle.std.specs.List.{AllByRecursion}

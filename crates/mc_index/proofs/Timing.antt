@@ -1,11 +1,11 @@
 -- Sync points whose times rise, and a time among them.
-use Rattle.std.proofs.Common.{◌≡◌, ℕ, Bool, true, false, List, [], ◌∷◌, ◌++◌, Option, Some, None, ℤ, refl, sym, ap, subst, ◌∙◌, ◌⊎◌, inl, inr, arith}
-use Rattle.std.specs.Prelude.{⊤, not, ◌||◌, ◌<ℤ◌, int_le, IfSome, if◌then◌else◌}
+use Rattle.std.proofs.Common.{◌≡◌, Bool, true, false, List, [], ◌∷◌, ◌++◌, Option, Some, None, ℤ, refl, sym, subst, arith}
+use Rattle.std.specs.Prelude.{not, ◌||◌, ◌<ℤ◌, int_le, IfSome}
 use Rattle.std.specs.Option.{option_map}
 use Rattle.std.specs.List.{AllByRecursion}
 use Rattle.mc_walk.specs.declared.plan.Plan.{Plan}
 use Rattle.mc_journal.specs.Choices.{or_else}
-use Rattle.mc_journal.specs.Films.{TimesRise, first, last, last_upto, first_from}
+use Rattle.mc_journal.specs.Films.{TimesRise, last}
 use Rattle.mc_journal.specs.Told.{Told}
 use Rattle.mc_index.specs.declared.entry.Point.{Point}
 use Rattle.mc_index.specs.Entries.{is_upto}

@@ -1,17 +1,15 @@
 -- What an index answers of a film: the starts of a seek and of a switch.
-use Rattle.std.specs.Prelude.{◌≡◌, ◌⊎◌, ℕ, ◌+◌, ◌≤◌, max, ◌==◌, Bool, true, false, ◌&&◌, if◌then◌else◌, List, ◌++◌, Contains, Option, Some, None, is_some, IfSome, ℤ, int_le, ⊤}
-use Rattle.std.specs.Option.{option_map, option_map_or}
+use Rattle.std.specs.Prelude.{◌≡◌, ◌⊎◌, ℕ, ◌+◌, ◌≤◌, max, Bool, true, false, ◌&&◌, List, ◌++◌, Contains, Option, Some, None, is_some, IfSome, ℤ, int_le}
+use Rattle.std.specs.Option.{option_map}
 use Rattle.mc_packet.specs.declared.choice.Choice.{Choice}
 use Rattle.mc_packet.specs.declared.choice.Dir.{Dir}
-use Rattle.mc_packet.specs.declared.choice.Dir.TheVariants.{Back, Forward}
 use Rattle.mc_packet.specs.declared.choice.Starts.{Starts}
 use Rattle.mc_packet.specs.declared.packet.Packet.{Packet}
 use Rattle.mc_packet.specs.declared.walk.Mark.{Mark}
 use Rattle.mc_walk.specs.declared.plan.Plan.{Plan}
-use Rattle.mc_walk.specs.Parts.{opening_mark}
 use Rattle.mc_walk.specs.Walk.{film_walk}
 use Rattle.mc_journal.specs.Told.{Told}
-use Rattle.mc_journal.specs.Choices.{or_else, is_known, passes}
+use Rattle.mc_journal.specs.Choices.{is_known, passes}
 use Rattle.mc_journal.specs.Films.{IsRegular, is_listed, syncs, first, last, film_syncs, video_sync, time_or, start_of, switch_start}
 use Rattle.mc_journal.specs.Used.{place_of_starts}
 use Rattle.mc_index.specs.declared.entry.Point.{Point}

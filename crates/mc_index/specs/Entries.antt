@@ -10,16 +10,16 @@ use Rattle.mc_index.specs.declared.entry.LastSync.{LastSync}
 abbrev pub unread : ℕ → LastSync
 unread track = record { track = track; point = None }
 
--- a track's last keyframe, once one of some track was read
+-- a track's last sync point, once one of some track was read
 abbrev pub noted : ℕ → Point → LastSync → LastSync
 noted track point l = if track == l.track then record { track = l.track; point = Some point } else l
 
--- no keyframe, or one at a time or before it
+-- no sync point, or one at a time or before it
 abbrev pub is_upto : ℤ → Option Point → Bool
 is_upto t None = true
 is_upto t (Some p) = int_le p.time t
 
--- a block element that is a keyframe
+-- the mark of a block element whose first packet is a sync point
 abbrev pub key_of : Option BlockMark → Option BlockMark
 key_of None = None
 key_of (Some b) = if b.key then Some b else None

@@ -11,7 +11,7 @@ use Rattle.mc_packet.specs.declared.walk.Mark.{Mark}
 use Rattle.mc_tracks.specs.declared.track.Track.{Track}
 use Rattle.mc_tracks.specs.TrackList.{numbered, is_of}
 use Rattle.mc_walk.specs.declared.plan.Plan.{Plan}
-use Rattle.mc_walk.specs.Parts.{mark, opening_mark, Part, part_at}
+use Rattle.mc_walk.specs.Parts.{mark, opening_mark, part_at}
 use Rattle.mc_walk.specs.Walk.{steps, film_walk}
 use Rattle.mc_journal.specs.Told.{Told, told}
 use Rattle.mc_journal.specs.Films.{syncs}

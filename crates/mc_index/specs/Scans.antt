@@ -2,10 +2,11 @@
 use Rattle.std.specs.Prelude.{◌≡◌, ℕ, ◌<◌, ◌≤◌, List, length, map, All, Option}
 use Rattle.std.specs.Option.{option_map}
 use Rattle.mc_packet.specs.declared.packet.Packet.{Packet}
+use Rattle.mc_outside.specs.Shelf.{Files, Opened, content_of}
 use Rattle.mc_walk.specs.declared.plan.Plan.{Plan}
 use Rattle.mc_cursor.specs.declared.cursor.Cursor.{Cursor}
 use Rattle.mc_cursor.specs.Reads.{Told as IfTold}
-use Rattle.mc_cursor.specs.Standing.{plan_for, StandsFor}
+use Rattle.mc_cursor.specs.Standing.{plan_for, file_of, StandsFor}
 use Rattle.mc_journal.specs.Told.{Told}
 use Rattle.mc_journal.specs.Films.{last, syncs}
 use Rattle.mc_index.specs.declared.entry.Point.{Point}
@@ -44,5 +45,20 @@ pub record IsIndexOf (plan : Plan) (x : Index) : Type 0 where
 abbrev pub OfFilm : Option (List ℕ) → Cursor → Index → (List ℕ → Type 0) → Type 0
 OfFilm content c x fact = IfTold content (λ octets. StandsFor octets c → IsIndexOf (plan_for octets c) x → fact octets)
 
+-- a cursor and an index stand for the same film
 abbrev pub StandFor : List ℕ → Cursor → Index → Type 0
 StandFor octets c x = StandsFor octets c × IsIndexOf (plan_for octets c) x
+
+-- ---- the same over a shelf, whose members are named once
+
+-- a fact of the told octets for which a cursor and an index stand
+abbrev pub OnOctets : {S : Type 0} → (S → Option Files) → (S → Opened) → S → Cursor → Index → (List ℕ → Type 0) → Type 0
+OnOctets files opened shelf c x fact = OfFilm (content_of files opened shelf (file_of c)) c x fact
+
+-- a fact of the plan by which the cursor walks over them
+abbrev pub OnPlan : {S : Type 0} → (S → Option Files) → (S → Opened) → S → Cursor → Index → (Plan → Type 0) → Type 0
+OnPlan files opened shelf c x fact = OnOctets files opened shelf c x (λ octets. fact (plan_for octets c))
+
+-- the cursor and the index that come after stand for them too
+abbrev pub StayOn : {S : Type 0} → (S → Option Files) → (S → Opened) → S → Cursor → Index → Cursor → Index → Type 0
+StayOn files opened shelf c x c' x' = OnOctets files opened shelf c x (λ octets. StandFor octets c' x')

@@ -1,5 +1,5 @@
 -- What a look-up finds on its way.
-use Rattle.std.specs.Prelude.{◌≡◌, ℕ, ◌^◌, ◌<◌, ◌==◌, nat_le, Bool, true, false, if◌then◌else◌, List, [], ◌∷◌, find, Option, Some, None, is_some, ℤ, int_le, ⊤}
+use Rattle.std.specs.Prelude.{◌≡◌, ℕ, ◌^◌, ◌<◌, ◌==◌, nat_le, Bool, true, false, if◌then◌else◌, List, find, Option, Some, None, ℤ, int_le, ⊤}
 use Rattle.mc_packet.specs.declared.choice.Choice.{Choice}
 use Rattle.mc_packet.specs.declared.choice.Dir.{Dir}
 use Rattle.mc_packet.specs.declared.choice.Dir.TheVariants.{Back, Forward}
@@ -8,11 +8,10 @@ use Rattle.mc_packet.specs.declared.packet.Packet.{Packet}
 use Rattle.mc_packet.specs.declared.walk.Ending.{Ending}
 use Rattle.mc_packet.specs.declared.walk.Mark.{Mark}
 use Rattle.mc_walk.specs.declared.plan.Plan.{Plan}
-use Rattle.mc_walk.specs.Parts.{mark, opening_mark, Part, part_at}
+use Rattle.mc_walk.specs.Parts.{opening_mark}
 use Rattle.mc_cursor.specs.declared.head.HeadChunk.{HeadChunk}
 use Rattle.mc_journal.specs.Choices.{or_else, OnTrack}
-use Rattle.mc_journal.specs.Films.{TimesRise, syncs, audio_dir}
-use Rattle.mc_journal.specs.Told.{Told}
+use Rattle.mc_journal.specs.Films.{TimesRise, audio_dir}
 use Rattle.mc_index.specs.declared.entry.Point.{Point}
 use Rattle.mc_index.specs.declared.entry.LastSync.{LastSync}
 use Rattle.mc_index.specs.declared.entry.Entry.{Entry}
@@ -20,7 +19,7 @@ use Rattle.mc_index.specs.declared.search.Around.{Around}
 use Rattle.mc_index.specs.declared.search.Since.{Since}
 use Rattle.mc_index.specs.declared.search.Found.{Found}
 use Rattle.mc_index.specs.declared.search.Found.TheVariants as found
-use Rattle.mc_index.specs.Fronts.{Front, told_all, film_points, mark_at}
+use Rattle.mc_index.specs.Fronts.{Front, film_points}
 use Rattle.mc_index.specs.Entries.{is_upto, track_point}
 use Rattle.mc_index.specs.Scans.{last_point}
 use Rattle.mc_index.specs.Answers.{IsAround, ReadsUntil, shows}

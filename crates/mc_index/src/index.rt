@@ -12,12 +12,15 @@ use std::alloc::Global;
 /// How many block elements there are from one entry to the next.
 pub(crate) const SPACING: u64 = 64;
 
-/// What is known of a film's keyframes, as far as it was read: an entry for each 64th block element.
+/// What is known of a film's sync points, as far as it was read: an entry for each 64th block
+/// element.
 #[derive(Drop)]
 pub struct Index {
+    // Where an entry's list of tracks is made.
     pub(crate) alloc: Global,
-    // The place to which the film was scanned.
+    // The place to which the film was scanned: each head behind it that a look-up reads moves it on.
     pub(crate) front: Entry,
+    // The front as it was before each 64th block element; `note` alone adds to them.
     pub(crate) entries: Vec<Entry>,
     ghost spaced: { length entries.items ≡ (front.blocks + 63) / 64 },
     ghost onward: { front.blocks ≤ front.mark.pos },
@@ -29,7 +32,8 @@ impl Index {
 
     /// An index of any film with this list of tracks, of which nothing is read yet.
     pub fn new(alloc: Global, list: &TrackList) -> Result<Index, NoMemory>
-        ensures stands { IfOk result (λ x. (plan : Plan) → plan.tracks ≡ list.now → IsIndexOf plan x) }
+        ensures stands { IfOk result (λ x. (plan : Plan) → plan.tracks ≡ list.now
+            → IsIndexOf plan x) }
         ensures empty { IfOk result (λ x. x.front.blocks ≡ 0) }
     {
         Ok(Index {
@@ -77,7 +81,7 @@ fn is_lead(track: &Track) -> bool
     is_readable(Kind::Video, track) || is_readable(Kind::Audio, track)
 }
 
-// The video and audio tracks whose blocks can be read, before any of their keyframes.
+// The video and audio tracks whose blocks can be read, before any of their sync points.
 fn lead_tracks(alloc: Global, tracks: &[Track]) -> Result<Vec<LastSync>, NoMemory>
     ensures { IfOk result (λ v. v.items ≡ map unread (leads_of tracks.now)) }
 {
@@ -94,7 +98,8 @@ fn lead_tracks(alloc: Global, tracks: &[Track]) -> Result<Vec<LastSync>, NoMemor
 }
 
 fn opening_entry(alloc: Global, list: &TrackList) -> Result<Entry, NoMemory>
-    ensures { IfOk result (λ e. (e.blocks ≡ 0) × (e.mark ≡ opening_mark) × (e.tracks.items ≡ map unread (leads_of list.now))) }
+    ensures { IfOk result (λ e. (e.blocks ≡ 0) × (e.mark ≡ opening_mark)
+        × (e.tracks.items ≡ map unread (leads_of list.now))) }
 {
     Ok(Entry {
         blocks: 0,

@@ -12,6 +12,12 @@ ghost use Rattle.mc_index.specs.Scans.{IsPlan};
 /// read.
 pub fn block_marks()
     ensures place { (plan : Plan) (place : ℕ) → (mark_at plan place).pos ≡ place }
-    ensures mark { (plan : Plan) (n : ℕ) (m : Mark) (before : List Packet) (p : Packet) (ps : List Packet) → IsPlan plan → Front plan n m before → (part_at plan m).packets ≡ p ∷ ps → IsMark plan (mark_at plan p.pos.block) }
-    ensures part { (plan : Plan) (n : ℕ) (m : Mark) (before : List Packet) (p : Packet) (ps : List Packet) → IsPlan plan → Front plan n m before → (part_at plan m).packets ≡ p ∷ ps → part_at plan (mark_at plan p.pos.block) ≡ part_at plan m }
+    ensures mark { (plan : Plan) (n : ℕ) (m : Mark) (before : List Packet)
+        (p : Packet) (ps : List Packet)
+        → IsPlan plan → Front plan n m before → (part_at plan m).packets ≡ p ∷ ps
+        → IsMark plan (mark_at plan p.pos.block) }
+    ensures part { (plan : Plan) (n : ℕ) (m : Mark) (before : List Packet)
+        (p : Packet) (ps : List Packet)
+        → IsPlan plan → Front plan n m before → (part_at plan m).packets ≡ p ∷ ps
+        → part_at plan (mark_at plan p.pos.block) ≡ part_at plan m }
 {}

@@ -9,7 +9,7 @@ use mc_cursor::{BlockMark, HeadChunk};
 use mc_packet::{Mark, NoMemory, TrackNo};
 use std::alloc::Global;
 
-// The keyframe of a head's block element.
+// The sync point of a head's block element.
 fn key_point(head: &HeadChunk, block: BlockMark) -> Point
     ensures { result ≡ key_point head.now block }
 {
@@ -22,7 +22,7 @@ fn key_point(head: &HeadChunk, block: BlockMark) -> Point
     }
 }
 
-/// The keyframe of a track with which a head ends, if it does.
+/// The sync point of a track with which a head ends, if it does.
 pub(crate) fn track_point(track: TrackNo, head: &HeadChunk) -> Option<Point>
     ensures { result ≡ track_point track head.now head.now.block }
 {
@@ -36,7 +36,7 @@ pub(crate) fn track_point(track: TrackNo, head: &HeadChunk) -> Option<Point>
     }
 }
 
-// The keyframe of a head and its track.
+// The sync point of a head and its track.
 fn key_of(head: &HeadChunk) -> Option<BlockMark>
     ensures { result ≡ key_of head.now.block }
 {
@@ -51,7 +51,8 @@ impl Entry {
     fn go_on(&mut self, head: &HeadChunk)
         requires { (self.old.blocks ≤ self.old.mark.pos) × (self.old.mark.pos < head.now.to.pos) }
         ensures value { (self.new.blocks ≡ self.old.blocks + 1) × (self.new.mark ≡ head.now.to) }
-        ensures tracks { self.new.tracks.items ≡ noted_by head.now (key_of head.now.block) self.old.tracks.items }
+        ensures tracks { self.new.tracks.items
+            ≡ noted_by head.now (key_of head.now.block) self.old.tracks.items }
     {
         prove!(self.blocks < head.to.pos);
         self.blocks += 1;
@@ -67,7 +68,8 @@ fn keep_entry(alloc: Global, entries: &mut Vec<Entry>, front: &Entry) -> Result<
     requires { length entries.old.items ≡ (front.now.blocks + 63) / 64 }
     ensures spaced { OnOk result (length entries.new.items ≡ (front.now.blocks + 64) / 64) }
     ensures err { OnErr result (entries.new.items ≡ entries.old.items) }
-    ensures stands { (plan : Plan) → IsEntry plan front.now → All (IsEntry plan) entries.old.items → All (IsEntry plan) entries.new.items }
+    ensures stands { (plan : Plan) → IsEntry plan front.now → All (IsEntry plan) entries.old.items
+        → All (IsEntry plan) entries.new.items }
 {
     if front.blocks % SPACING == 0 {
         let entry = front.copy(alloc)?;
@@ -85,8 +87,12 @@ impl Index {
     /// each 64th of them.
     pub(crate) fn note(&mut self, head: &HeadChunk) -> Result<(), NoMemory>
         requires { head.now.ending ≡ None → head.now.from.pos < head.now.to.pos }
-        ensures stands { (plan : Plan) → IsPlan plan → head.now ≡ head_chunk_of (chunk_at plan head.now.from) → IsIndexOf plan self.old → IsIndexOf plan self.new }
-        ensures noted { OnOk result (head.now.ending ≡ None → head.now.from ≡ self.old.front.mark → (self.new.front.mark ≡ head.now.to) × (self.new.front.blocks ≡ self.old.front.blocks + 1)) }
+        ensures stands { (plan : Plan) → IsPlan plan
+            → head.now ≡ head_chunk_of (chunk_at plan head.now.from) → IsIndexOf plan self.old
+            → IsIndexOf plan self.new }
+        ensures noted { OnOk result (head.now.ending ≡ None → head.now.from ≡ self.old.front.mark
+            → (self.new.front.mark ≡ head.now.to)
+            × (self.new.front.blocks ≡ self.old.front.blocks + 1)) }
     {
         if head.ending.is_some() || head.from != self.front.mark {
             return Ok(());

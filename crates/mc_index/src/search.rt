@@ -3,8 +3,7 @@ ghost use Rattle.std.specs.Prelude.{◌==◌, find};
 ghost use Rattle.std.specs.Option.{option_copied};
 ghost use Rattle.mc_index.specs.declared.entry.LastSync.{LastSync};
 ghost use Rattle.mc_index.specs.declared.entry.Entry.{Entry};
-ghost use Rattle.mc_outside.specs.Shelf.{content};
-ghost use Rattle.mc_cursor.specs.Causes.{ReadCause, Keeps};
+ghost use Rattle.mc_cursor.specs.Causes.{ReadCause, OnlyReads};
 ghost use Rattle.mc_index.specs.Entries.{is_upto};
 ghost use Rattle.mc_index.specs.Searches.{found_by, since_in};
 
@@ -15,25 +14,29 @@ use mc_cursor::{Cursor, CursorError, HeadChunk};
 use mc_outside::Shelf;
 use mc_packet::{Mark, TrackNo};
 
-/// The keyframes of a track next to a time: the last one at it or before it, and the first one
+/// The sync points of a track next to a time: the last one at it or before it, and the first one
 /// behind it.
 #[derive(Clone, Copy, Debug, PartialEq, Eq)]
 pub(crate) struct Around {
+    /// The last one at the time or before it.
     pub before: Option<Point>,
+    /// The first one behind it.
     pub after: Option<Point>,
 }
 
-/// A mark from which to read on, and the track's last keyframe before it.
+/// A mark from which to read on, and the track's last sync point before it.
 #[derive(Clone, Copy, Debug, PartialEq, Eq)]
 pub(crate) struct Since {
+    /// Where the look-up reads on.
     pub mark: Mark,
+    /// The last sync point before it.
     pub before: Option<Point>,
 }
 
 /// What reading on by a head comes to.
 #[derive(Clone, Copy, Debug, PartialEq, Eq)]
 pub(crate) enum Found {
-    /// No keyframe of the track.
+    /// No sync point of the track.
     Other,
     /// One at the time or before it.
     Upto(Point),
@@ -76,8 +79,8 @@ fn found_by(head: &HeadChunk, track: TrackNo, t: i64) -> Found
 }
 
 impl Entry {
-    // Reading on from here finds the keyframes next to a time, where no keyframe of the track behind
-    // that time is known here.
+    // Reading on from here finds the sync points next to a time, where none of the track behind that
+    // time is known here.
     fn since(&self, track: TrackNo, t: i64) -> Option<Since>
         ensures { result ≡ since_in track t self.now }
     {
@@ -97,7 +100,8 @@ impl Entry {
 
 // Reading on from the last of the entries that the search passes.
 fn since_entry(entries: &[Entry], track: TrackNo, t: i64) -> Option<Since>
-    ensures { IfSome result (λ s. (e : Entry) × Contains entries.now e × (since_in track t e ≡ Some s)) }
+    ensures { IfSome result (λ s. (e : Entry) × Contains entries.now e
+        × (since_in track t e ≡ Some s)) }
 {
     let passed = passed(entries, track, t);
     if passed == 0 {
@@ -106,8 +110,8 @@ fn since_entry(entries: &[Entry], track: TrackNo, t: i64) -> Option<Since>
     entries[passed - 1].since(track, t)
 }
 
-// How many of the entries the search passes: those up to which no later keyframe is known, where the
-// keyframes' times rise.
+// How many of the entries the search passes: those up to which no later sync point is known, where
+// the sync points' times rise.
 fn passed(entries: &[Entry], track: TrackNo, t: i64) -> usize
     ensures { result ≤ length entries.now }
 {
@@ -128,12 +132,12 @@ impl Index {
     ghost use Rattle.mc_walk.specs.declared.plan.Plan.{Plan};
     ghost use Rattle.mc_walk.specs.Parts.{part_at, chunk_at};
     ghost use Rattle.mc_cursor.specs.Heads.{head_chunk_of};
-    ghost use Rattle.mc_cursor.specs.Standing.{plan_for, mark_of, file_of, at_mark, ReadsPart};
-    ghost use Rattle.mc_index.specs.Scans.{IsIndexOf, OfFilm, StandFor};
+    ghost use Rattle.mc_cursor.specs.Standing.{mark_of, at_mark, ReadsPart};
+    ghost use Rattle.mc_index.specs.Scans.{IsIndexOf, OnPlan, StayOn};
     ghost use Rattle.mc_index.specs.Answers.{IsAround};
     ghost use Rattle.mc_index.specs.Searches.{IsSince, IsOn, GoesOn, NearReads};
 
-    // The nearest place from which to look for the keyframes next to a time.
+    // The nearest place from which to look for the sync points next to a time.
     fn nearest(&self, track: TrackNo, t: i64) -> Since
         ensures { (plan : Plan) → IsIndexOf plan self.now → IsSince plan track t result }
     {
@@ -157,21 +161,28 @@ impl Index {
         track: TrackNo,
         t: i64,
     ) -> Result<Found, CursorError>
-        ensures found { IfOk result (λ f. OfFilm (content (S.files shelf.old) (S.opened shelf.old) (file_of cursor.old)) cursor.old self.old (λ octets. let k = head_chunk_of (chunk_at (plan_for octets cursor.old) (mark_of cursor.old)) in (f ≡ found_by track t k) × (mark_of cursor.new ≡ k.to))) }
-        ensures stands { OfFilm (content (S.files shelf.old) (S.opened shelf.old) (file_of cursor.old)) cursor.old self.old (λ octets. StandFor octets cursor.new self.new) }
+        // what the head tells, and where the cursor and the index stand behind it
+        ensures found { IfOk result (λ f. OnPlan S.files S.opened shelf.old cursor.old self.old
+            (λ plan. let k = head_chunk_of (chunk_at plan (mark_of cursor.old)) in
+            (f ≡ found_by track t k) × (mark_of cursor.new ≡ k.to))) }
+        ensures stands { StayOn S.files S.opened shelf.old cursor.old self.old cursor.new self.new }
         ensures moves { cursor.new ≡ at_mark cursor.old (mark_of cursor.new) }
         ensures onward { IfOk result (λ f. GoesOn f (mark_of cursor.old) (mark_of cursor.new)) }
-        ensures follows { IfOk result (λ f. IsOn f → mark_of cursor.old ≡ self.old.front.mark → mark_of cursor.new ≡ self.new.front.mark) }
+        ensures follows { IfOk result (λ f. IsOn f → mark_of cursor.old ≡ self.old.front.mark
+            → mark_of cursor.new ≡ self.new.front.mark) }
+        // what is asked of the shelf
         ensures cause { ReadCause (S.faults shelf.old) (S.faults shelf.new) result }
-        ensures kept { Keeps (S.files shelf.old) (S.files shelf.new) (S.opened shelf.old) (S.opened shelf.new) (S.reach shelf.old) (S.reach shelf.new) }
-        ensures reach { OfFilm (content (S.files shelf.old) (S.opened shelf.old) (file_of cursor.old)) cursor.old self.old (λ octets. ReadsPart (part_at (plan_for octets cursor.old) (mark_of cursor.old)) (S.reach shelf.old) (S.reach shelf.new)) }
+        ensures kept { OnlyReads S.files S.opened S.reach shelf.old shelf.new }
+        ensures reach { OnPlan S.files S.opened shelf.old cursor.old self.old
+            (λ plan. ReadsPart (part_at plan (mark_of cursor.old))
+            (S.reach shelf.old) (S.reach shelf.new)) }
     {
         let head = cursor.next_head(shelf)?;
         self.note(&head)?;
         Ok(found_by(&head, track, t))
     }
 
-    /// The keyframes of a track next to a time. It reads on from the nearest place that is known, and
+    /// The sync points of a track next to a time. It reads on from the nearest place that is known, and
     /// no further than to one behind the time, or to the film's ending.
     pub(crate) fn around<S: Shelf>(
         &mut self,
@@ -180,12 +191,14 @@ impl Index {
         track: TrackNo,
         t: i64,
     ) -> Result<Around, CursorError>
-        ensures around { IfOk result (λ a. OfFilm (content (S.files shelf.old) (S.opened shelf.old) (file_of cursor.old)) cursor.old self.old (λ octets. IsAround (plan_for octets cursor.old) track t a)) }
-        ensures stands { OfFilm (content (S.files shelf.old) (S.opened shelf.old) (file_of cursor.old)) cursor.old self.old (λ octets. StandFor octets cursor.new self.new) }
+        ensures around { IfOk result (λ a. OnPlan S.files S.opened shelf.old cursor.old self.old
+            (λ plan. IsAround plan track t a)) }
+        ensures stands { StayOn S.files S.opened shelf.old cursor.old self.old cursor.new self.new }
         ensures moves { cursor.new ≡ at_mark cursor.old (mark_of cursor.new) }
         ensures cause { ReadCause (S.faults shelf.old) (S.faults shelf.new) result }
-        ensures kept { Keeps (S.files shelf.old) (S.files shelf.new) (S.opened shelf.old) (S.opened shelf.new) (S.reach shelf.old) (S.reach shelf.new) }
-        ensures reach { OfFilm (content (S.files shelf.old) (S.opened shelf.old) (file_of cursor.old)) cursor.old self.old (λ octets. NearReads (plan_for octets cursor.old) (Some track) t (S.reach shelf.old) (S.reach shelf.new)) }
+        ensures kept { OnlyReads S.files S.opened S.reach shelf.old shelf.new }
+        ensures reach { OnPlan S.files S.opened shelf.old cursor.old self.old
+            (λ plan. NearReads plan (Some track) t (S.reach shelf.old) (S.reach shelf.new)) }
     {
         let since = self.nearest(track, t);
         let mut before = since.before;

@@ -9,7 +9,7 @@ use crate::index::opening_mark;
 use crate::search::Around;
 use mc_packet::{Choice, Dir, Mark, Starts, TrackNo};
 
-// ---- which keyframe a seek asks for
+// ---- which sync point a seek asks for
 
 fn or_else(point: Option<Point>, other: Option<Point>) -> Option<Point>
     ensures { result ≡ or_else point other }
@@ -29,7 +29,7 @@ fn is_at(point: Option<Point>, t: i64) -> bool
     }
 }
 
-// The keyframe that a seek to a time asks for, by those next to it.
+// The sync point that a seek to a time asks for, by those next to it.
 fn chosen(around: Around, dir: Dir, t: i64) -> Option<Point>
     ensures { result ≡ chosen dir t around }
 {
@@ -43,7 +43,7 @@ fn chosen(around: Around, dir: Dir, t: i64) -> Option<Point>
     }
 }
 
-// In which direction audio looks: back, from the video keyframe's time, where a video track leads.
+// In which direction audio looks: back, from the video sync point's time, where a video track leads.
 fn audio_dir(video: Option<TrackNo>, dir: Dir) -> Dir
     ensures { result ≡ audio_dir video dir }
 {
@@ -53,7 +53,7 @@ fn audio_dir(video: Option<TrackNo>, dir: Dir) -> Dir
     }
 }
 
-// The time of a keyframe, or another one where there is none.
+// The time of a sync point, or another one where there is none.
 fn point_time(t: i64, point: Option<Point>) -> i64
     ensures { result ≡ point_time t point }
 {
@@ -150,7 +150,7 @@ fn points_starts(set: Choice, video: Option<Point>, audio: Option<Point>) -> Sta
     starts_by(video, audio, sub_mark(set.sub, least_mark(video, audio)))
 }
 
-/// The time by which audio beside video looks for its keyframe: that of the video track's, or `t`
+/// The time by which audio beside video looks for its sync point: that of the video track's, or `t`
 /// where it has none.
 pub(crate) fn reference(lead: Around, dir: Dir, t: i64) -> i64
     ensures { result ≡ reference dir t lead }
@@ -158,7 +158,7 @@ pub(crate) fn reference(lead: Around, dir: Dir, t: i64) -> i64
     point_time(t, chosen(lead, dir, t))
 }
 
-/// The starts of a seek, by the keyframes of its video track next to `t`, and those of its audio
+/// The starts of a seek, by the sync points of its video track next to `t`, and those of its audio
 /// track next to the reference time.
 pub(crate) fn seek_starts(set: Choice, dir: Dir, t: i64, lead: Around, beside: Around) -> Starts
     ensures { result ≡ seek_of set dir t lead beside }
@@ -168,7 +168,7 @@ pub(crate) fn seek_starts(set: Choice, dir: Dir, t: i64, lead: Around, beside: A
     points_starts(set, chosen(lead, dir, t), audio)
 }
 
-/// The starts of a switch, by the keyframes next to `at` of the added tracks, and of the lead.
+/// The starts of a switch, by the sync points next to `at` of the added tracks, and of the lead.
 pub(crate) fn switch_starts(
     added: Choice,
     at: i64,

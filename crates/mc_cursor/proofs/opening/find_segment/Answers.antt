@@ -16,7 +16,7 @@ returns-then-head-eq-SEGMENT-clause-value g c = λ octets told from_le.
     let inv = c.loop-found.invariant.told octets told from_le in
     let told' = told_later _ _ _ _ _ _ c.args.file.0 octets c.loop-found.invariant.kept told in
     let is = c.in_ok-found.ensures.value octets told' inv.0 in
-    rw c.end_of.ensures (sym inv.1 ∙ segment_found octets c.loop-found.place c.in_ok-found.found c.in-Some.head is (sym c.in-Some.is ∙ c.head_found.ensures) inv.0 c.if-head-eq-SEGMENT.true)
+    rw c.body_end.ensures (sym inv.1 ∙ segment_found octets c.loop-found.place c.in_ok-found.found c.in-Some.head is (sym c.in-Some.is ∙ c.head_found.ensures) inv.0 c.if-head-eq-SEGMENT.true)
 
 pub returns-in-None-clause-value : goal.returns-in-None-clause-value
 returns-in-None-clause-value g c = λ octets told from_le.

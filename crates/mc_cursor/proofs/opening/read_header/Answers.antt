@@ -1,6 +1,6 @@
 use Rattle.std.proofs.Common.{◌≤◌, length}
 use Rattle.std.specs.Prelude.{IfSome}
-use Rattle.mc_tracks.specs.Ids.{INFO, TRACKS}
+use Rattle.mc_ebml.specs.Ids.{INFO, TRACKS}
 use Rattle.mc_walk.specs.Opening.{header_of}
 use Rattle.mc_cursor.proofs.Chunks.{told_later}
 use Rattle.mc_cursor.proofs.Finding.{first_in}

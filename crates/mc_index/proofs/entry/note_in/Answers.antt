@@ -1,4 +1,4 @@
-use Rattle.std.proofs.Common.{◌≡◌, None, sym, ap, ◌∙◌, set, get_or, arith}
+use Rattle.std.proofs.Common.{None, sym, ap, ◌∙◌, set, get_or, arith}
 use Rattle.mc_index.specs.declared.entry.LastSync.{LastSync}
 use Rattle.mc_index.proofs.Listing.{noted-next, noted-same, noted-other}
 use Rattle.mc_index.proofs.entry.note_in.Goals as goal

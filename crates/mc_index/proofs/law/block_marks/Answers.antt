@@ -1,6 +1,5 @@
-use Rattle.std.proofs.Common.{◌≡◌, ◌∷◌, sym, ap, subst, ◌∙◌}
-use Rattle.mc_packet.specs.declared.walk.Mark.{Mark}
-use Rattle.mc_walk.specs.Parts.{mark, part_at, IsMark}
+use Rattle.std.proofs.Common.{sym, ap, subst, ◌∙◌}
+use Rattle.mc_walk.specs.Parts.{part_at, IsMark}
 use Rattle.mc_walk.proofs.Marks.{block-marked}
 use Rattle.mc_index.proofs.Fronts.{front-mark}
 use Rattle.mc_index.proofs.Marking.{mark-first, mark-pos}

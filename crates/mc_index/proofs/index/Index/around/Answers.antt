@@ -1,4 +1,4 @@
-use Rattle.std.proofs.Common.{◌≡◌, Some, refl, sym, ap, subst, ◌∙◌, arith}
+use Rattle.std.proofs.Common.{Some, sym, ◌∙◌, arith}
 use Rattle.std.proofs.Math.Facts.{to_z-of_z}
 use Rattle.mc_cursor.proofs.Chunks.{keeps_none, keeps_more}
 use Rattle.mc_cursor.specs.Standing.{plan_for}
@@ -14,7 +14,7 @@ loop-point-init g c = record {
       let plan = plan_for octets c.args.cursor.now in
       let since = c.nearest-since.ensures plan index in
       so-far-begins octets c.args.track _ c.args.cursor.now c.goto.new.self c.args.self.now c.nearest-since.result _ c.goto.ensures.value
-      (c.goto.ensures.stands octets stands (since-mark plan c.args.track _ c.nearest-since.result since)) index since;
+      (c.goto.ensures.stands octets stands.opened (since-mark plan c.args.track _ c.nearest-since.result since)) index since;
 }
 
 pub loop-point-smaller-in-Other : goal.loop-point-smaller-in-Other

@@ -1,11 +1,10 @@
-use Rattle.std.proofs.Common.{◌≡◌, sym, subst, rules}
+use Rattle.std.proofs.Common.{sym, subst, rules}
 use Rattle.std.proofs.Math.Facts.{to_z-of_z}
 use Rattle.std.proofs.Common.{SFits, w64}
 use Rattle.mc_cursor.specs.Standing.{plan_for}
-use Rattle.mc_packet.specs.declared.choice.Starts.{Starts}
-use Rattle.mc_index.specs.Answers.{AreFor, AreOfBlocks, SeekStarts, SeekReads}
+use Rattle.mc_index.specs.Answers.{AreFor, AreOfBlocks, SeekStarts}
 use Rattle.mc_index.specs.Searches.{IsNear, NearReads}
-use Rattle.mc_index.proofs.SoFar.{told-on, moved-on, reads-moved}
+use Rattle.mc_index.proofs.SoFar.{told-on, reads-moved}
 use Rattle.mc_index.proofs.Finding.{near-moved, seek-blocks, seek-value, seek-tracks, seek-reads}
 use Rattle.mc_index.proofs.index.Index.find.Goals as goal
 

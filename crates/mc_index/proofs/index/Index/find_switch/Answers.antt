@@ -1,9 +1,7 @@
-use Rattle.std.proofs.Common.{◌≡◌, sym, subst, rules}
+use Rattle.std.proofs.Common.{sym, subst}
 use Rattle.std.proofs.Math.Facts.{to_z-of_z}
-use Rattle.std.proofs.Common.{SFits, w64}
 use Rattle.mc_cursor.specs.Standing.{plan_for}
-use Rattle.mc_packet.specs.declared.choice.Starts.{Starts}
-use Rattle.mc_index.specs.Answers.{AreFor, AreOfBlocks, SwitchStarts, SwitchReads}
+use Rattle.mc_index.specs.Answers.{AreFor, AreOfBlocks, SwitchStarts}
 use Rattle.mc_index.specs.Searches.{IsNear, NearReads}
 use Rattle.mc_index.proofs.SoFar.{told-on, moved-on, reads-moved}
 use Rattle.mc_index.proofs.Finding.{near-moved, switch-blocks, switch-value, switch-tracks, switch-second_reads, switch-reads}

@@ -1,4 +1,4 @@
-use Rattle.std.proofs.Common.{◌≡◌, None, rules, sym, ap, subst, ◌∙◌}
+use Rattle.std.proofs.Common.{◌≡◌, None, rules, ap, ◌∙◌}
 use Rattle.mc_packet.specs.declared.walk.Mark.{Mark}
 use Rattle.mc_cursor.specs.Heads.{head_chunk_of}
 use Rattle.mc_walk.specs.Parts.{chunk_at}

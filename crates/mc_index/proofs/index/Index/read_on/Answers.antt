@@ -1,7 +1,6 @@
 use Rattle.std.proofs.Common.{◌≡◌, Option, Some, None, refl, sym, ap, subst, ◌∙◌}
 use Rattle.mc_walk.specs.declared.plan.Plan.{Plan}
 use Rattle.mc_walk.specs.Parts.{chunk_at}
-use Rattle.mc_cursor.specs.declared.cursor.Cursor.{Cursor}
 use Rattle.mc_cursor.specs.Heads.{head_chunk_of}
 use Rattle.mc_cursor.specs.Standing.{plan_for, mark_of}
 use Rattle.mc_packet.specs.declared.walk.Ending.{Ending}

@@ -1,5 +1,5 @@
 -- A good lace gives the first of its frames, where the times of all lie in range.
-use Rattle.std.proofs.Common.{◌≡◌, ℕ, zero, suc, ◌+◌, Bool, true, false, ◌&&◌, List, [], ◌∷◌, length, drop, Option, Some, None, Result, Ok, Err, ℤ, refl, sym, ap, ◌∙◌, arith}
+use Rattle.std.proofs.Common.{◌≡◌, ℕ, zero, suc, ◌+◌, ◌-◌, ◌<◌, ◌≤◌, Bool, true, false, ◌&&◌, List, [], ◌∷◌, length, drop, Option, Some, None, Result, Ok, Err, ℤ, refl, sym, ap, ◌∙◌, arith}
 use Rattle.std.specs.Prelude.{if◌then◌else◌, ⊤, ◌==◌, slice_range}
 use Rattle.mc_packet.specs.declared.packet.Packet.{Packet}
 use Rattle.mc_packet.specs.declared.walk.Fault.{Fault}
@@ -85,6 +85,22 @@ lace_tells b octets first None is begins =
 lace_tells b octets first (Some lace) is begins =
     let good : counted (frames_of b.head.flags (drop b.head.at octets)) ≡ frames_if (is_good lace (drop (b.head.at + 1) octets)) b.count = rw is.counted begins in
     is.same ∙ by_frames b.place b.head b.key (drop b.head.at octets) b.count (frames_of b.head.flags (drop b.head.at octets)) (is_good lace (drop (b.head.at + 1) octets)) good
+
+-- ---- the times of frames
+
+is_ranged : (place : Place) (relative : ℤ) (lane : ℕ) (t : ℤ) → Some t ≡ time_of place relative lane → in_range (frame_time place relative lane) ≡ true
+is_ranged place relative lane t some = go (in_range (frame_time place relative lane)) refl some
+  where
+    go : (is : Bool) → in_range (frame_time place relative lane) ≡ is → Some t ≡ (if is then Some (frame_time place relative lane) else None) → in_range (frame_time place relative lane) ≡ true
+    go true e some = e
+    go false e some = absurd (cc some)
+
+pub time_fits : (place : Place) (relative : ℤ) (lane count : ℕ) (t : ℤ) (total : Bool) → lane < count → Some t ≡ time_of place relative lane
+    → times_fit place relative lane (count - lane) ≡ total → times_fit place relative (lane + 1) (count - (lane + 1)) ≡ total
+time_fits place relative lane count t total lt some so_far =
+    let k : count - lane ≡ suc (count - (lane + 1)) = omega arith in
+    let one : times_fit place relative lane (count - lane) ≡ times_fit place relative (lane + 1) (count - (lane + 1)) = rw (k, is_ranged place relative lane t some) refl in
+    sym one ∙ so_far
 
 -- where the times of all frames lie in range, that of the first does
 pub first_in_range : (place : Place) (relative : ℤ) (n : ℕ) → times_fit place relative 0 (n + 1) ≡ true → in_range (frame_time place relative 0) ≡ true

@@ -3,3 +3,4 @@ pub mod Walking
 pub mod Laws
 pub mod Reopening
 pub mod Chunking
+pub mod Again

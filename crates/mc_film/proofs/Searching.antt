@@ -9,7 +9,7 @@ use Rattle.mc_tracks.specs.declared.children.Child.{Child}
 use Rattle.mc_tracks.specs.declared.refused.Refused.{Refused}
 use Rattle.mc_tracks.specs.declared.refused.Refused.TheVariants.{NoSegment}
 use Rattle.mc_tracks.specs.Children.{element_at, first}
-use Rattle.mc_tracks.specs.Ids.{SEGMENT}
+use Rattle.mc_ebml.specs.Ids.{SEGMENT}
 use Rattle.mc_walk.specs.declared.plan.Segment.{Segment}
 use Rattle.mc_walk.specs.Opening.{segment_from, segment_or, end_by, segment_child, segment_children, following}
 

@@ -1,14 +1,16 @@
 -- A whole film: the walk over all of its octets.
-use Rattle.std.specs.Prelude.{◌≡◌, ℕ, List, Result, Ok, Err, ⊤}
+use Rattle.std.specs.Prelude.{◌≡◌, ◌<◌, ℕ, List, Result, Ok, Err, ⊤}
 use Rattle.mc_tracks.specs.declared.refused.Refused.{Refused}
 use Rattle.mc_tracks.specs.declared.refused.TracksError.{TracksError}
 use Rattle.mc_tracks.specs.declared.refused.TracksError.TheVariants as causes
 use Rattle.mc_tracks.specs.Answer.{◌>>=◌}
+use Rattle.mc_tracks.specs.TrackList.{IsTrackList}
 use Rattle.mc_walk.specs.declared.plan.Plan.{Plan}
 use Rattle.mc_walk.specs.Walk.{film_walk, steps}
 use Rattle.mc_walk.specs.Opening.{opened_film}
 use Rattle.mc_walk.specs.Parts.{joined, opening_mark}
 use Rattle.mc_walk.specs.Frames.{AreItsFrames}
+use Rattle.mc_walk.specs.Again.{AreAgain}
 use Rattle.mc_film.specs.declared.whole.FilmError.{FilmError}
 use Rattle.mc_film.specs.declared.whole.FilmError.TheVariants as failures
 use Rattle.mc_film.specs.declared.whole.WholeFilm.{WholeFilm}
@@ -42,3 +44,11 @@ FilmIsItsFrames octets f = (plan : Plan) × (opened_film octets ≡ Ok plan) × 
 -- read part by part, from mark to mark, it has the same packets and ends in the same way
 abbrev pub FilmIsItsParts : List ℕ → WholeFilm → Type 0
 FilmIsItsParts octets f = (plan : Plan) × (opened_film octets ≡ Ok plan) × (joined (steps plan) plan opening_mark ≡ (f.packets, f.ending))
+
+-- each of its packets can be written again as a block of its own
+abbrev pub FilmsAreAgain : Type 0
+FilmsAreAgain = (octets : List ℕ) (f : WholeFilm) → film_of octets ≡ Ok f → AreAgain f.tracks f.packets
+
+-- its scale is not 0, and its tracks are such a list
+abbrev pub FilmsHaveShape : Type 0
+FilmsHaveShape = (octets : List ℕ) (f : WholeFilm) → film_of octets ≡ Ok f → (0 < f.scale) × IsTrackList f.tracks

@@ -1,28 +1,14 @@
 ghost use Rattle.std.specs.Prelude.{◌≡◌, ◌+◌, ◌^◌, ◌<◌, ◌≤◌, length, Option, IfOk, IfSome};
-ghost use Rattle.mc_ebml.specs.Element.{IsSmall};
 ghost use Rattle.mc_tracks.specs.Children.{element_at, first, LiesIn};
-ghost use Rattle.mc_walk.specs.Opening.{end_by, segment_of, segment_child, first_child, info_in, tracks_in, header_by, header_of, info_then_tracks, tracks_then_info};
+ghost use Rattle.mc_walk.specs.Opening.{segment_of, segment_child, first_child, info_in, tracks_in, header_by, header_of, info_then_tracks, tracks_then_info};
 ghost use Rattle.mc_film.specs.Film.{Gives};
 
 use crate::whole::FilmError;
-use mc_ebml::{Size, read_head};
-use mc_tracks::{Child, Refused, TrackList, ids, parse_info, parse_tracks, read_element};
-use mc_walk::{Header, Segment};
+use mc_ebml::{ids, read_head};
+use mc_packet::LARGEST_HEADER;
+use mc_tracks::{Child, Refused, TrackList, parse_info, parse_tracks, read_element};
+use mc_walk::{Header, Segment, body_end, child_before_cluster};
 use std::alloc::Global;
-
-const LARGEST: usize = 16_777_216;
-
-// Where a body ends, if its size is known.
-fn end_of(at: usize, size: Size) -> Option<u64>
-    requires fits { at < 2 ^ 63 }
-    requires small { IsSmall size }
-    ensures { result ≡ end_by at size }
-{
-    match size {
-        Size::Known(size) => Some(at as u64 + size),
-        Size::Unknown => None,
-    }
-}
 
 /// The first Segment from a place on, behind elements that stand whole.
 pub(crate) fn find_segment(octets: &[u8], from: usize) -> Result<Segment, Refused>
@@ -38,7 +24,7 @@ pub(crate) fn find_segment(octets: &[u8], from: usize) -> Result<Segment, Refuse
         if head.id == ids::SEGMENT {
             return Ok(Segment {
                 opening: head.body as u64,
-                end: end_of(head.body, head.size),
+                end: body_end(head.body, head.size),
             });
         }
         match read_element(octets, place) {
@@ -58,13 +44,7 @@ fn read_segment_child(octets: &[u8], end: Option<u64>, place: usize) -> Option<C
     if end == Some(place as u64) {
         return None;
     }
-    let child = read_element(octets, place)?;
-    let runs_past = end.is_some_and(|end| end < child.stop as u64);
-    if child.id == ids::CLUSTER || runs_past {
-        None
-    } else {
-        Some(child)
-    }
+    child_before_cluster(end, read_element(octets, place))
 }
 
 // The first child of this ID before the first Cluster.
@@ -89,7 +69,7 @@ fn read_info(octets: &[u8], child: Child) -> Result<u64, FilmError>
     ensures value { Gives result (info_in octets.now child) }
     ensures positive { IfOk result (λ scale. 0 < scale) }
 {
-    if child.stop - child.at > LARGEST {
+    if (child.stop - child.at) as u64 > LARGEST_HEADER {
         return Err(FilmError::Refused(Refused::Broken(child.place as u64)));
     }
     let body = &octets[child.at..child.stop];
@@ -100,7 +80,7 @@ fn read_tracks(alloc: Global, octets: &[u8], child: Child) -> Result<TrackList, 
     requires { LiesIn (length octets.now) child }
     ensures { Gives result (tracks_in octets.now child) }
 {
-    if child.stop - child.at > LARGEST {
+    if (child.stop - child.at) as u64 > LARGEST_HEADER {
         return Err(FilmError::Refused(Refused::Broken(child.place as u64)));
     }
     let body = &octets[child.at..child.stop];

@@ -6,14 +6,17 @@ ghost use Rattle.mc_walk.specs.Walk.{stamped, blocked, time_of, passed, moved, h
 
 use mc_ebml::{EbmlError, read_head, read_uint};
 use mc_packet::{Ending, Fault, Level, NoMemory, Packets};
-use mc_walk::{Move, Plan, Role, Step, WalkError, block_element, last_ending, move_at, settled};
+use mc_walk::{
+    Move, Plan, Role, Step, WalkError, block_element, cluster_time, last_ending, move_at, settled,
+};
 use std::alloc::{AllocError, Global};
 
 // A Timestamp sets the Cluster's time.
 fn time_step(plan: &Plan, place: u64, at: usize, stop: u64, level: Level) -> Step
     requires order { (place < at) × (at ≤ stop) }
     requires whole { stop ≤ length plan.now.octets }
-    ensures value { result ≡ stamped place stop level (uint_of (slice_range plan.now.octets at stop)) }
+    ensures value { let body = slice_range plan.now.octets at stop in
+        result ≡ stamped place stop level (uint_of body) }
     ensures rises { Rises place (length plan.now.octets) result }
 {
     let Level::Cluster { end, .. } = level else {
@@ -36,15 +39,6 @@ fn time_step(plan: &Plan, place: u64, at: usize, stop: u64, level: Level) -> Ste
     }
 }
 
-fn cluster_time(level: Level) -> Option<u64>
-    ensures { result ≡ time_of level }
-{
-    match level {
-        Level::Segment => None,
-        Level::Cluster { time, .. } => time,
-    }
-}
-
 // A block element gives its packets.
 fn block_step(
     alloc: Global,
@@ -57,7 +51,10 @@ fn block_step(
 ) -> Result<Step, NoMemory>
     requires order { (place < at) × (at ≤ stop) }
     requires whole { stop ≤ length plan.now.octets }
-    ensures value { IfOk result (λ s. s ≡ blocked place stop level (block_element_of plan.now.tracks plan.now.scale place (time_of level) role (slice_range plan.now.octets at stop))) }
+    ensures value { let body = slice_range plan.now.octets at stop in
+        let film = plan.now in
+        IfOk result (λ s. s ≡ blocked place stop level
+        (block_element_of film.tracks film.scale place (time_of level) role body)) }
     ensures rises { IfOk result (Rises place (length plan.now.octets)) }
 {
     let body = plan.octets.slice(at..stop as usize)?;
@@ -85,7 +82,8 @@ fn passed_step(
 ) -> Result<Step, NoMemory>
     requires order { (place < at) × (at ≤ stop) }
     requires whole { stop ≤ length plan.now.octets }
-    ensures value { IfOk result (λ s. s ≡ passed plan.now place role (slice_range plan.now.octets at stop) stop level) }
+    ensures value { let body = slice_range plan.now.octets at stop in
+        IfOk result (λ s. s ≡ passed plan.now place role body stop level) }
     ensures rises { IfOk result (Rises place (length plan.now.octets)) }
 {
     match role {
@@ -131,7 +129,8 @@ fn moved_step(alloc: Global, plan: &Plan, place: u64, movement: Move) -> Result<
 // An element at a place where the walk goes on.
 fn headed_step(alloc: Global, plan: &Plan, place: u64, level: Level) -> Result<Step, NoMemory>
     requires { place ≤ length plan.now.octets }
-    ensures value { IfOk result (λ s. s ≡ headed plan.now place level (head_at plan.now.octets place)) }
+    ensures value { let head = head_at plan.now.octets place in
+        IfOk result (λ s. s ≡ headed plan.now place level head) }
     ensures rises { IfOk result (Rises place (length plan.now.octets)) }
 {
     match read_head(plan.octets.as_slice(), place as usize) {

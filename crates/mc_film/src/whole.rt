@@ -18,16 +18,20 @@ use std::alloc::{AllocError, Global};
 pub struct WholeFilm {
     /// Nanoseconds in a unit of time, at least 1 (RFC 9559, section 5.1.2.9).
     pub scale: u64,
+    /// The tracks that the film lists, in the order of their TrackEntries.
     pub tracks: TrackList,
     /// The packets of all listed tracks that are not encoded, in file order.
     pub packets: Packets,
+    /// How the film ends.
     pub ending: Ending,
 }
 
 /// Why a film is not read.
 #[derive(Clone, Copy, Debug, PartialEq, Eq)]
 pub enum FilmError {
+    /// What stands before its Clusters is refused.
     Refused(Refused),
+    /// Memory was wanting.
     NoMemory,
 }
 

@@ -8,7 +8,7 @@ returns-in_default-clause-value c =
 
 pub returns-then-head-eq-SEGMENT-clause-value : goal.returns-then-head-eq-SEGMENT-clause-value
 returns-then-head-eq-SEGMENT-clause-value c =
-    rw c.end_of.ensures (found (length c.args.octets.now) c.loop.counter c.args.octets.now c.loop.place c.in-Ok.head _ c.loop-test.true c.in-Ok.ensures.value c.if-head-eq-SEGMENT.true c.loop.invariant.1)
+    rw c.body_end.ensures (found (length c.args.octets.now) c.loop.counter c.args.octets.now c.loop.place c.in-Ok.head _ c.loop-test.true c.in-Ok.ensures.value c.if-head-eq-SEGMENT.true c.loop.invariant.1)
 
 pub returns-in-None-clause-value : goal.returns-in-None-clause-value
 returns-in-None-clause-value c =

@@ -1,5 +1,5 @@
 -- A lace is good where the sizes that are still wanted are, one after the other.
-use Rattle.std.proofs.Common.{◌≡◌, ℕ, zero, suc, ◌+◌, ◌-◌, ◌*◌, ◌/◌, ◌%◌, ◌<◌, ◌≤◌, ◌==◌, Bool, true, false, cond, List, [], ◌∷◌, length, take, drop, sum, min, Option, Some, None, Result, Ok, Err, ℤ, pos, negsuc, refl, sym, ap, ◌∙◌, arith, length-drop, length-take, leb, ltb, add_assoc, zero-add, ◌^◌}
+use Rattle.std.proofs.Common.{◌≡◌, ℕ, zero, suc, ◌+◌, ◌-◌, ◌*◌, ◌/◌, ◌%◌, ◌<◌, ◌≤◌, ◌==◌, Bool, true, false, List, [], ◌∷◌, length, take, drop, sum, min, Option, Some, None, Result, Ok, Err, ℤ, pos, negsuc, refl, sym, ap, ◌∙◌, arith, length-drop, add_assoc, zero-add, ◌^◌}
 use Rattle.std.specs.Prelude.{IfSome, ◌+ℤ◌, replicate, nat_le, nat_lt, if◌then◌else◌, ⊤}
 use Rattle.std.proofs.lemmas.Bool.Decides.{nat_tests}
 use Rattle.std.proofs.lemmas.List.{drop-take, take_all, length-replicate}
@@ -12,13 +12,12 @@ use Rattle.mc_ebml.specs.declared.read.EbmlError.{EbmlError}
 use Rattle.mc_ebml.specs.declared.read.EbmlError.TheVariants.{Short, BadSize}
 use Rattle.mc_ebml.specs.Element.{width, coded_from, coded_at, size_at, size_of, ◌>>=◌}
 use Rattle.byteorder.specs.Endian.{big_number}
-use Rattle.mc_block.specs.declared.error.BlockError.{BlockError}
 use Rattle.mc_block.specs.declared.error.BlockError.TheVariants.{BadLace}
 use Rattle.mc_block.specs.declared.lace.Lacing.{Lacing}
 use Rattle.mc_block.specs.declared.lace.Lacing.TheVariants.{Single, Xiph, Fixed, Ebml}
 use Rattle.mc_block.specs.declared.lace_reader.LaceReader.{LaceReader}
-use Rattle.mc_block.specs.Frames.{Front, front, ◌then◌, longer, xiph_size, known, sized, first_size, difference, natural, changed, changed_size, next_size, size_in_front, coded_sizes, fixed_sizes, lace_sizes, spans, fitted, laced, lacing_of, has_lace, is_laced, frames_in, frames_of}
-use Rattle.mc_block.specs.Fronts.{fits, is_good, AreOctets, FitsIn, ReadsOn, counted, frames_if, Begins}
+use Rattle.mc_block.specs.Frames.{Front, front, ◌then◌, longer, xiph_size, known, sized, first_size, difference, natural, changed, changed_size, next_size, size_in_front, coded_sizes, lace_sizes, spans, fitted, laced, lacing_of, has_lace, is_laced, frames_in, frames_of}
+use Rattle.mc_block.specs.Fronts.{fits, is_good, AreOctets, counted, frames_if}
 use Rattle.mc_block.proofs.Runs.{Leaves, coded_leaves}
 use Rattle.mc_block.proofs.Heads.{coded_window}
 

@@ -1,5 +1,5 @@
 -- What the octets with which something begins tell of it: an element's head, and the sizes of a lace.
-use Rattle.std.specs.Prelude.{◌≡◌, ℕ, ◌+◌, ◌≤◌, Bool, true, false, nat_le, if◌then◌else◌, List, ◌∷◌, length, drop, sum, Option, Some, None, unwrap_or, ⊤, Result, Ok, Err}
+use Rattle.std.specs.Prelude.{◌≡◌, ℕ, ◌+◌, ◌≤◌, Bool, false, nat_le, if◌then◌else◌, List, ◌∷◌, length, drop, sum, Option, Some, None, unwrap_or, ⊤, Result, Ok, Err}
 use Rattle.mc_ebml.specs.declared.read.Head.{Head}
 use Rattle.mc_ebml.specs.declared.read.EbmlError.{EbmlError}
 use Rattle.mc_ebml.specs.declared.read.Size.{Size}

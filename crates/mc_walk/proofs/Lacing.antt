@@ -1,5 +1,5 @@
 -- A good lace gives the first of its frames, where the times of all lie in range.
-use Rattle.std.proofs.Common.{◌≡◌, ℕ, zero, suc, ◌+◌, ◌-◌, ◌<◌, ◌≤◌, Bool, true, false, ◌&&◌, List, [], ◌∷◌, length, drop, Option, Some, None, Result, Ok, Err, ℤ, refl, sym, ap, ◌∙◌, arith}
+use Rattle.std.proofs.Common.{◌≡◌, ℕ, suc, ◌+◌, ◌-◌, ◌<◌, Bool, true, false, ◌&&◌, List, [], ◌∷◌, length, drop, Option, Some, None, Result, Ok, Err, ℤ, refl, sym, ap, ◌∙◌, arith}
 use Rattle.std.specs.Prelude.{if◌then◌else◌, ⊤, ◌==◌, slice_range}
 use Rattle.mc_packet.specs.declared.packet.Packet.{Packet}
 use Rattle.mc_packet.specs.declared.walk.Fault.{Fault}
@@ -9,13 +9,13 @@ use Rattle.mc_block.specs.declared.error.BlockError.TheVariants.{TimeRange, BadL
 use Rattle.mc_block.specs.declared.parts.Place.{Place}
 use Rattle.mc_block.specs.declared.parts.BlockHead.{BlockHead}
 use Rattle.mc_block.specs.declared.lace_reader.LaceReader.{LaceReader}
-use Rattle.mc_block.specs.Block.{◌>>=◌, frame_time, in_range, time_of, packet_of, packets_from, packets_behind}
+use Rattle.mc_block.specs.Block.{◌>>=◌, frame_time, in_range, time_of, packets_from}
 use Rattle.mc_block.specs.Frames.{frames_of}
 use Rattle.mc_block.specs.Fronts.{counted, frames_if, is_good, Begins}
 use Rattle.mc_walk.specs.declared.front.BlockMark.{BlockMark}
 use Rattle.mc_walk.specs.declared.front.LacedBlock.{LacedBlock}
 use Rattle.mc_walk.specs.Blocks.{faulted}
-use Rattle.mc_walk.specs.Glances.{block_mark, marked, mark_at, times_fit, frames_mark, lace_mark, or_range, IsLace, LaceTells}
+use Rattle.mc_walk.specs.Glances.{block_mark, marked, times_fit, frames_mark, IsLace, LaceTells}
 
 -- ---- packets, lane by lane
 

@@ -1,5 +1,5 @@
 -- A block element that is read apart from its head.
-use Rattle.std.proofs.Common.{◌≡◌, ℕ, ◌+◌, ◌-◌, ◌≤◌, Bool, true, false, List, length, take, drop, min, Option, Some, None, Result, Ok, Err, refl, sym, ap, ◌∙◌, arith, length-take}
+use Rattle.std.proofs.Common.{◌≡◌, ℕ, ◌+◌, ◌-◌, ◌≤◌, Bool, true, false, List, length, take, drop, min, Some, None, Result, Ok, Err, refl, sym, arith, length-take}
 use Rattle.std.specs.Prelude.{nat_lt, slice_range, if◌then◌else◌}
 use Rattle.std.proofs.lemmas.List.{take-take, take_all}
 use Rattle.std.proofs.lemmas.Bool.Decides.{nat_tests}
@@ -16,8 +16,8 @@ use Rattle.mc_walk.specs.Blocks.{block_element_of}
 use Rattle.mc_walk.specs.Walk.{blocked, time_of, moved}
 use Rattle.mc_cursor.specs.declared.step.Unread.{Unread}
 use Rattle.mc_cursor.specs.declared.step.Reached.TheVariants as reached
-use Rattle.mc_cursor.specs.Reads.{ends_before, part_of}
-use Rattle.mc_cursor.specs.Steps.{IsBlock, or_damaged, taken_of, taken_step, step_to}
+use Rattle.mc_cursor.specs.Reads.{part_of}
+use Rattle.mc_cursor.specs.Steps.{IsBlock, or_damaged, taken_step, step_to}
 
 -- ---- its step
 

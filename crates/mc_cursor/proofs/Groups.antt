@@ -1,5 +1,5 @@
 -- The children of a group that are read one after the other.
-use Rattle.std.proofs.Common.{◌≡◌, ℕ, ◌+◌, ◌-◌, ◌<◌, ◌≤◌, false, List, length, Option, Some, None, ◌∙◌, arith}
+use Rattle.std.proofs.Common.{◌≡◌, ℕ, ◌+◌, ◌-◌, ◌<◌, ◌≤◌, false, List, length, Some, None, arith}
 use Rattle.std.specs.Prelude.{option_map, slice_range}
 use Rattle.mc_block.specs.declared.group.Child.{Child}
 use Rattle.mc_block.specs.declared.group.GroupParts.{GroupParts}

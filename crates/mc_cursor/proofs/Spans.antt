@@ -1,6 +1,6 @@
 -- A block that is read in parts gives what its element does.
-use Rattle.std.proofs.Common.{◌≡◌, ℕ, suc, ◌+◌, ◌-◌, ◌<◌, ◌≤◌, Bool, true, false, not, List, [], ◌∷◌, length, take, drop, min, Option, Some, None, Result, Ok, Err, refl, sym, ap, ◌∙◌, arith, length-take, length-drop}
-use Rattle.std.specs.Prelude.{nat_lt, slice_range, if◌then◌else◌, option_map, ⊤}
+use Rattle.std.proofs.Common.{◌≡◌, ℕ, ◌+◌, ◌-◌, ◌<◌, ◌≤◌, Bool, true, false, not, List, [], ◌∷◌, length, take, drop, min, Option, Some, None, Result, Ok, Err, refl, sym, ap, ◌∙◌, arith, length-take, length-drop}
+use Rattle.std.specs.Prelude.{nat_lt, slice_range, if◌then◌else◌, option_map}
 use Rattle.std.proofs.lemmas.List.{take-take, drop-take, drop-drop}
 use Rattle.std.proofs.lemmas.Bool.Decides.{nat_tests}
 use Rattle.mc_packet.specs.declared.packet.Packet.{Packet}
@@ -19,8 +19,8 @@ use Rattle.mc_walk.specs.declared.front.Glance.{Glance}
 use Rattle.mc_walk.specs.declared.front.Glance.TheVariants as glances
 use Rattle.mc_walk.specs.declared.movement.Role.{Role}
 use Rattle.mc_walk.specs.declared.movement.Role.TheVariants as roles
-use Rattle.mc_walk.specs.Blocks.{block_element_of, some_opened}
-use Rattle.mc_walk.specs.Glances.{marked, first_mark, lace_mark, opened_among, Tells, CountsIn, IsLace, LaceTells}
+use Rattle.mc_walk.specs.Blocks.{some_opened}
+use Rattle.mc_walk.specs.Glances.{marked, lace_mark, opened_among, Tells, CountsIn, LaceTells}
 use Rattle.mc_walk.specs.Walk.{time_of}
 use Rattle.mc_packet.specs.Shape.{AreBetween}
 use Rattle.mc_outside.specs.Shelf.{Files, Opened, content, KeepsRead}

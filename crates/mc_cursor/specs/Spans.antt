@@ -1,11 +1,10 @@
 -- A block of a film that is read in parts: what its front and its lace tell of its packets.
-use Rattle.std.specs.Prelude.{◌≡◌, ℕ, ◌+◌, ◌-◌, ◌<◌, ◌≤◌, Bool, true, false, if◌then◌else◌, List, [], length, slice_range, Option, Some, None, IfSome, Result, Ok, Err, ⊤}
+use Rattle.std.specs.Prelude.{◌≡◌, ℕ, ◌-◌, ◌<◌, ◌≤◌, false, if◌then◌else◌, List, [], length, slice_range, Option, Some, None, Result, Ok, Err, ⊤}
 use Rattle.mc_packet.specs.declared.packet.Packet.{Packet}
 use Rattle.mc_packet.specs.declared.walk.Fault.{Fault}
 use Rattle.mc_packet.specs.declared.walk.Ending.{Ending}
 use Rattle.mc_packet.specs.declared.walk.Ending.TheVariants.{Cut, Damaged}
 use Rattle.mc_block.specs.declared.parts.BlockBody.{BlockBody}
-use Rattle.mc_block.specs.declared.group.GroupParts.{GroupParts}
 use Rattle.mc_block.specs.declared.lace_reader.LaceReader.{LaceReader}
 use Rattle.mc_block.specs.Fronts.{is_good, FitsIn}
 use Rattle.mc_walk.specs.declared.front.BlockMark.{BlockMark}

@@ -15,11 +15,11 @@ use crate::cursor::Cursor;
 use crate::error::CursorError;
 use crate::reading::{read_ends_before, read_part};
 use crate::span::Span;
-use crate::step::{Unread, cluster_time};
+use crate::step::Unread;
 use bytes::Bytes;
 use mc_outside::{ReadFault, Shelf};
 use mc_packet::{Ending, Fault, LARGEST_BLOCK, NoMemory, Packets};
-use mc_walk::{BlockMark, Glance, WalkError, block_element};
+use mc_walk::{BlockMark, Glance, WalkError, block_element, cluster_time};
 use std::alloc::AllocError;
 
 impl Cursor {

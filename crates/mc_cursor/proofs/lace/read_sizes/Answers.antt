@@ -1,4 +1,4 @@
-use Rattle.std.proofs.Common.{◌≡◌, ◌<◌, ◌≤◌, ◌-◌, ◌∙◌, refl, arith}
+use Rattle.std.proofs.Common.{◌<◌, ◌≤◌, ◌-◌, ◌∙◌, refl, arith}
 use Rattle.mc_block.specs.Fronts.{FitsIn}
 use Rattle.mc_cursor.proofs.Spans.{reads_none, reads_more, told_after}
 use Rattle.mc_cursor.proofs.lace.read_sizes.Goals as goal

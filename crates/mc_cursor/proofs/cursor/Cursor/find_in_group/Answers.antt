@@ -1,6 +1,4 @@
-use Rattle.std.proofs.Common.{◌≡◌, ◌+◌, ◌-◌, ◌≤◌, Option, sym, ◌∙◌, arith}
-use Rattle.std.specs.Prelude.{option_map, slice_range}
-use Rattle.mc_block.specs.Group.{children_of, found_among}
+use Rattle.std.proofs.Common.{◌≡◌, ◌+◌, ◌-◌, ◌≤◌, sym, ◌∙◌, arith}
 use Rattle.mc_cursor.proofs.Spans.{told_after, in_film, group_bad, group_none, group_some}
 use Rattle.mc_cursor.proofs.cursor.Cursor.find_in_group.Goals as goal
 

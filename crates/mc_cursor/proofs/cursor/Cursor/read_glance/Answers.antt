@@ -1,4 +1,4 @@
-use Rattle.std.proofs.Common.{◌≡◌, ◌∙◌, sym, ap, refl, false, arith}
+use Rattle.std.proofs.Common.{◌≡◌, ◌∙◌, sym, refl, false, arith}
 use Rattle.mc_cursor.specs.Reads.{ends_before}
 use Rattle.mc_cursor.proofs.Stepping.{content_kept}
 use Rattle.mc_cursor.proofs.Blocks.{front_read, part_in_film}

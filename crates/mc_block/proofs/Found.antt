@@ -4,24 +4,24 @@ use Rattle.std.specs.Prelude.{option_map, IfSome}
 use Rattle.std.specs.Option.{option_or}
 use Rattle.std.proofs.lemmas.Bool.{le-leb, lt-leb}
 use Rattle.mc_block.specs.declared.group.Child.{Child}
-use Rattle.mc_block.specs.declared.group.Found.{Found}
+use Rattle.mc_block.specs.declared.group.GroupParts.{GroupParts}
 use Rattle.mc_block.specs.Group.{child_at, children, children_of, found_among, with_child, first_block, refers}
 
-abbrev made : Option Child → Bool → Found
+abbrev made : Option Child → Bool → GroupParts
 made block had = record { block = block; refers = had }
 
 -- what children tell behind those that were seen
-abbrev pub with_children : Found → List Child → Found
+abbrev pub with_children : GroupParts → List Child → GroupParts
 with_children found cs = record { block = option_or found.block (first_block cs); refers = found.refers || refers cs }
 
-abbrev pub after_found : Found → Option (List Child) → Option Found
+abbrev pub after_found : GroupParts → Option (List Child) → Option GroupParts
 after_found found None = None
 after_found found (Some cs) = Some (with_children found cs)
 
-regrouped : (found : Found) (c : Child) (others : Option (List Child))
+regrouped : (found : GroupParts) (c : Child) (others : Option (List Child))
     → after_found found (option_map (λ (cs : List Child). c ∷ cs) others) ≡ after_found (with_child found c) others
 regrouped found c None = refl
-regrouped found c (Some cs) = ap (λ (f : Found). Some f) (same found.block (c.id == 0xA1) found.refers (c.id == 0xFB))
+regrouped found c (Some cs) = ap (λ (f : GroupParts). Some f) (same found.block (c.id == 0xA1) found.refers (c.id == 0xFB))
   where
     same : (block : Option Child) (is : Bool) (had has : Bool)
         → made (option_or block (cond is (Some c) (first_block cs))) (had || (has || refers cs))
@@ -41,7 +41,7 @@ begins octets = let k : length octets - 0 ≡ length octets = omega arith in rw 
     same None = refl
     same (Some cs) = refl
 
-pub goes_on : (found : Found) (budget i at : ℕ) (octets : List ℕ) (c : Child) (total : Option Found) → i < budget → at < length octets → Some c ≡ child_at octets at
+pub goes_on : (found : GroupParts) (budget i at : ℕ) (octets : List ℕ) (c : Child) (total : Option GroupParts) → i < budget → at < length octets → Some c ≡ child_at octets at
     → after_found found (children (budget - i) octets at) ≡ total → after_found (with_child found c) (children (budget - (i + 1)) octets c.stop) ≡ total
 unfolding children
 goes_on found budget i at octets c total lt more child so_far =
@@ -50,7 +50,7 @@ goes_on found budget i at octets c total lt more child so_far =
     rw (k, lt-leb (length octets) at more, ← child) (regrouped found c (children (budget - (i + 1)) octets c.stop)) in
     sym one ∙ so_far
 
-pub breaks : (found : Found) (budget i at : ℕ) (octets : List ℕ) (total : Option Found) → i < budget → at < length octets → None ≡ child_at octets at
+pub breaks : (found : GroupParts) (budget i at : ℕ) (octets : List ℕ) (total : Option GroupParts) → i < budget → at < length octets → None ≡ child_at octets at
     → after_found found (children (budget - i) octets at) ≡ total → None ≡ total
 unfolding children
 breaks found budget i at octets total lt more child so_far =
@@ -58,7 +58,7 @@ breaks found budget i at octets total lt more child so_far =
     let one : after_found found (children (budget - i) octets at) ≡ None = rw (k, lt-leb (length octets) at more, ← child) refl in
     sym one ∙ so_far
 
-all_found : (found : Found) → with_children found [] ≡ found
+all_found : (found : GroupParts) → with_children found [] ≡ found
 all_found found = same found.block found.refers
   where
     same : (block : Option Child) (had : Bool) → made (option_or block None) (had || false) ≡ made block had
@@ -67,27 +67,27 @@ all_found found = same found.block found.refers
     same (Some b) true = refl
     same (Some b) false = refl
 
-pub ends : (found : Found) (budget i at : ℕ) (octets : List ℕ) (total : Option Found) → length octets ≤ at
+pub ends : (found : GroupParts) (budget i at : ℕ) (octets : List ℕ) (total : Option GroupParts) → length octets ≤ at
     → after_found found (children (budget - i) octets at) ≡ total → Some found ≡ total
 unfolding children
 ends found budget i at octets total end so_far = go (budget - i) so_far
   where
     go : (k : ℕ) → after_found found (children k octets at) ≡ total → Some found ≡ total
-    go zero e = ap (λ (f : Found). Some f) (sym (all_found found)) ∙ e
+    go zero e = ap (λ (f : GroupParts). Some f) (sym (all_found found)) ∙ e
     go (suc k) e =
-        let one : after_found found (children (suc k) octets at) ≡ Some found = rw (le-leb (length octets) at end) (ap (λ (f : Found). Some f) (all_found found)) in
+        let one : after_found found (children (suc k) octets at) ≡ Some found = rw (le-leb (length octets) at end) (ap (λ (f : GroupParts). Some f) (all_found found)) in
         sym one ∙ e
 
-pub is_done : (found : Found) (budget i at : ℕ) (octets : List ℕ) (total : Option Found) → budget ≤ i
+pub is_done : (found : GroupParts) (budget i at : ℕ) (octets : List ℕ) (total : Option GroupParts) → budget ≤ i
     → after_found found (children (budget - i) octets at) ≡ total → Some found ≡ total
 unfolding children
 is_done found budget i at octets total done so_far =
     let k : budget - i ≡ zero = omega arith in
-    let one : after_found found (children (budget - i) octets at) ≡ Some found = rw k (ap (λ (f : Found). Some f) (all_found found)) in
+    let one : after_found found (children (budget - i) octets at) ≡ Some found = rw k (ap (λ (f : GroupParts). Some f) (all_found found)) in
     sym one ∙ so_far
 
 -- a block that is found lies in so many octets
-pub kept : (found : Found) (c : Child) (len : ℕ) → IfSome found.block (λ (b : Child). (b.at ≤ b.stop) × (b.stop ≤ len)) → c.at ≤ c.stop → c.stop ≤ len
+pub kept : (found : GroupParts) (c : Child) (len : ℕ) → IfSome found.block (λ (b : Child). (b.at ≤ b.stop) × (b.stop ≤ len)) → c.at ≤ c.stop → c.stop ≤ len
     → IfSome (with_child found c).block (λ (b : Child). (b.at ≤ b.stop) × (b.stop ≤ len))
 kept found c len lies order within = go found.block (c.id == 0xA1) lies
   where

@@ -7,3 +7,6 @@ pub mod Narrow
 pub mod Laws
 pub mod Given
 pub mod Plain
+pub mod Heads
+pub mod Children
+pub mod Laced

@@ -70,7 +70,7 @@ then_leaves : {A B : Type 0} (len : ℕ) (r : Front A) (next : A → List ℕ �
 then_leaves len None next h more = tt
 then_leaves len (Some x) next h more = within (length x.1) len (next x.0 x.1) h (more x.0 x.1)
 
-coded_leaves : (lacing : Lacing) (n : ℕ) (before : Option ℕ) (octets : List ℕ) → Leaves (length octets) (coded_sizes lacing n before octets)
+pub coded_leaves : (lacing : Lacing) (n : ℕ) (before : Option ℕ) (octets : List ℕ) → Leaves (length octets) (coded_sizes lacing n before octets)
 coded_leaves lacing zero before octets = omega arith
 coded_leaves lacing (suc n) before octets =
     then_leaves (length octets) (next_size lacing before octets) (λ size left. size_in_front size (coded_sizes lacing n (Some size) left)) (next_leaves lacing before octets)

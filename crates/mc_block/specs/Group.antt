@@ -9,7 +9,7 @@ use Rattle.mc_ebml.specs.declared.read.EbmlError.{EbmlError}
 use Rattle.mc_ebml.specs.Element.{head_at}
 use Rattle.mc_ebml.specs.Ids.{BLOCK, REFERENCE_BLOCK}
 use Rattle.mc_block.specs.declared.group.Child.{Child}
-use Rattle.mc_block.specs.declared.group.Found.{Found}
+use Rattle.mc_block.specs.declared.group.GroupParts.{GroupParts}
 
 abbrev pub sized_child : List ℕ → ℕ → ℕ → Size → Option Child
 sized_child octets id at Unknown = None
@@ -45,11 +45,11 @@ abbrev pub refers : List Child → Bool
 refers cs = list_any (λ (c : Child). c.id == REFERENCE_BLOCK) cs
 
 -- what a group tells of its block
-abbrev pub found_among : List Child → Found
+abbrev pub found_among : List Child → GroupParts
 found_among cs = record { block = first_block cs; refers = refers cs }
 
 -- the same after one child more
-abbrev pub with_child : Found → Child → Found
+abbrev pub with_child : GroupParts → Child → GroupParts
 with_child found c = record {
   block = option_or found.block (if c.id == BLOCK then Some c else None);
   refers = found.refers || (c.id == REFERENCE_BLOCK);

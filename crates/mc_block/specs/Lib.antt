@@ -1,4 +1,5 @@
 pub mod Frames
 pub mod Group
 pub mod Block
+pub mod Fronts
 pub mod Written

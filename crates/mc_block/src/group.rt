@@ -1,5 +1,7 @@
-ghost use Rattle.std.specs.Prelude.{◌≡◌, ◌+◌, ◌<◌, ◌≤◌, ◌==◌, length, Some, None, option_map, IfOk, IfSome};
+ghost use Rattle.std.specs.Prelude.{◌≡◌, ◌+◌, ◌<◌, ◌≤◌, ◌==◌, ℕ, List, length, take, drop, false, Some, None, option_map, IfOk, IfSome};
 ghost use Rattle.std.specs.List.{list_any};
+ghost use Rattle.mc_ebml.specs.Element.{head_at};
+ghost use Rattle.mc_block.specs.Fronts.{child_by};
 ghost use Rattle.mc_block.specs.Group.{child_at, children_of, with_child, found_among};
 ghost use Rattle.mc_block.specs.Block.{Gives, group_body_of};
 
@@ -9,47 +11,88 @@ use bytes::Bytes;
 use mc_ebml::{Size, ids, read_head};
 use mc_packet::LARGEST_BLOCK;
 
-/// A child of an element: its ID, and where its body begins and ends in its parent's body.
+/// A child of a BlockGroup.
 #[derive(Clone, Copy, Debug, PartialEq, Eq)]
-pub(crate) struct Child {
-    pub(crate) id: u32,
-    pub(crate) at: usize,
-    pub(crate) stop: usize,
+pub struct Child {
+    /// Its ID, with the marker bit kept.
+    pub id: u32,
+    /// The offset in the group's body at which its own body begins.
+    pub at: usize,
+    /// The offset in the group's body at which it ends.
+    pub stop: usize,
 }
 
-// What is found so far among a group's children.
-#[derive(Clone, Copy)]
-struct Found {
-    // The first Block.
-    block: Option<Child>,
-    // Whether a ReferenceBlock stands among them.
-    refers: bool,
+/// What is found among a BlockGroup's children, so far as they were looked at.
+#[derive(Clone, Copy, Debug, PartialEq, Eq)]
+pub struct GroupParts {
+    /// Its first Block.
+    pub block: Option<Child>,
+    /// Whether a ReferenceBlock stands among them, so that the Block is no keyframe.
+    pub refers: bool,
+}
+
+// The most octets of an element's head: an ID has at most 4, a size 8.
+const HEAD: usize = 12;
+
+/// The child of a BlockGroup (RFC 9559, section 5.1.3.5) at offset `at` of the group's body, which
+/// has `len` octets, by the octets that stand there: the first 12, or all of fewer. `None` where
+/// it has no whole head or no size, or runs past the body's end.
+#[tactic(auto, using(crate::proofs::Children::child_here))]
+pub fn child_by_head(front: &[u8], at: usize, len: usize) -> Option<Child>
+    requires { at + length front.now ≤ len }
+    ensures law { (body : List ℕ) → length body ≡ len → front.now ≡ take 12 (drop at body)
+        → result ≡ child_at body at }
+    ensures lies { IfSome result (λ c. (at < c.at) × (c.at ≤ c.stop) × (c.stop ≤ len)) }
+{
+    headed_child(front, at, len)
+}
+
+fn headed_child(front: &[u8], at: usize, len: usize) -> Option<Child>
+    requires { at + length front.now ≤ len }
+    ensures value { result ≡ child_by at len (head_at front.now 0) }
+    ensures lies { IfSome result (λ c. (at < c.at) × (c.at ≤ c.stop) × (c.stop ≤ len)) }
+{
+    let head = read_head(front, 0).ok()?;
+    let Size::Known(size) = head.size else {
+        return None;
+    };
+    let begin = at + head.body;
+    if size > (len - begin) as u64 {
+        return None;
+    }
+    Some(Child {
+        id: head.id,
+        at: begin,
+        stop: begin + size as usize,
+    })
 }
 
 // The child at a place, where it stands whole before the end.
-#[tactic(auto, unfolding(crate::specs::Group::child_at))]
+#[tactic(auto, using(crate::proofs::Children::front_cut))]
 fn read_child(octets: &[u8], at: usize) -> Option<Child>
     requires { at ≤ length octets.now }
     ensures value { result ≡ child_at octets.now at }
     ensures lies { IfSome result
         (λ c. (at < c.at) × (c.at ≤ c.stop) × (c.stop ≤ length octets.now)) }
 {
-    let head = read_head(octets, at).ok()?;
-    let Size::Known(size) = head.size else {
-        return None;
-    };
-    if size > (octets.len() - head.body) as u64 {
-        return None;
-    }
-    Some(Child {
-        id: head.id,
-        at: head.body,
-        stop: head.body + size as usize,
-    })
+    let (_, rest) = octets.split_at(at);
+    let (front, _) = rest.split_at(rest.len().min(HEAD));
+    child_by_head(front, at, octets.len())
 }
 
-impl Found {
-    fn with(self, child: Child) -> Found
+impl GroupParts {
+    /// Before any child was looked at.
+    pub fn new() -> GroupParts
+        ensures { result ≡ record { block = None; refers = false } }
+    {
+        GroupParts {
+            block: None,
+            refers: false,
+        }
+    }
+
+    /// What is found with the next child.
+    pub fn with(self, child: Child) -> GroupParts
         ensures { result ≡ with_child self child }
     {
         let block = if child.id == ids::BLOCK {
@@ -57,7 +100,7 @@ impl Found {
         } else {
             None
         };
-        Found {
+        GroupParts {
             block: self.block.or(block),
             refers: self.refers || child.id == ids::REFERENCE_BLOCK,
         }
@@ -65,15 +108,12 @@ impl Found {
 }
 
 // What the children tell, where each stands whole up to the end of the octets.
-fn read_children(octets: &[u8]) -> Option<Found>
+fn read_children(octets: &[u8]) -> Option<GroupParts>
     ensures value { result ≡ option_map found_among (children_of octets.now) }
     ensures lies { IfSome result
         (λ f. IfSome f.block (λ c. (c.at ≤ c.stop) × (c.stop ≤ length octets.now))) }
 {
-    let mut found = Found {
-        block: None,
-        refers: false,
-    };
+    let mut found = GroupParts::new();
     let mut at = 0;
     for _ in 0..octets.len() {
         if at >= octets.len() {

@@ -19,7 +19,7 @@ pub(crate) enum Lacing {
 }
 
 // The lacing that bits 1 and 2 of the flags tell.
-fn lacing_of(flags: u8) -> Lacing
+pub(crate) fn lacing_of(flags: u8) -> Lacing
     ensures { result ≡ lacing_of flags }
 {
     match flags / 2 % 4 {

@@ -12,8 +12,9 @@ use bytes::Bytes;
 use mc_packet::{Packet, Packets, Pos};
 use std::alloc::Global;
 
-// Whether a block is a keyframe: the highest bit of its flags tells, unless its group does.
-fn is_key(keyframe: Option<bool>, flags: u8) -> bool
+/// Whether a block is a keyframe: the highest bit of its flags tells, unless its group does
+/// (RFC 9559, section 10.2).
+pub fn is_key(keyframe: Option<bool>, flags: u8) -> bool
     ensures { result ≡ is_key keyframe flags }
 {
     keyframe.unwrap_or(flags >= 0x80)

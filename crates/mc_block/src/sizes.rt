@@ -12,7 +12,8 @@ pub(crate) type Sizes = Items<u128>;
 // A size in Xiph lacing, and how many octets it takes.
 fn xiph_size(octets: &[u8]) -> Option<(u128, usize)>
     ensures value { front octets.now result ≡ xiph_size octets.now }
-    ensures bounds { IfSome result (λ x. (x.1 ≤ length octets.now) × (x.0 ≤ 255 * x.1)) }
+    ensures bounds { IfSome result
+        (λ x. (0 < x.1) × (x.1 ≤ length octets.now) × (x.0 ≤ 255 * x.1)) }
 {
     let mut size = 0;
     for (i, b) in octets.iter().enumerate() {
@@ -27,7 +28,7 @@ fn xiph_size(octets: &[u8]) -> Option<(u128, usize)>
 // The first size in EBML lacing, and how many octets it takes.
 fn first_size(octets: &[u8]) -> Option<(u128, usize)>
     ensures value { front octets.now result ≡ first_size octets.now }
-    ensures bounds { IfSome result (λ x. (x.1 ≤ length octets.now) × (x.0 < 2 ^ 56)) }
+    ensures bounds { IfSome result (λ x. (0 < x.1) × (x.1 ≤ length octets.now) × (x.0 < 2 ^ 56)) }
 {
     match read_size(octets, 0) {
         Ok((Size::Known(size), taken)) => Some((size as u128, taken)),
@@ -67,7 +68,8 @@ fn difference(coded: Coded) -> i128
 fn changed_size(size: u128, octets: &[u8]) -> Option<(u128, usize)>
     requires { size < 2 ^ 100 }
     ensures value { front octets.now result ≡ changed_size size octets.now }
-    ensures bounds { IfSome result (λ x. (x.1 ≤ length octets.now) × (x.0 ≤ size + 2 ^ 56)) }
+    ensures bounds { IfSome result
+        (λ x. (0 < x.1) × (x.1 ≤ length octets.now) × (x.0 ≤ size + 2 ^ 56)) }
 {
     let coded = read_coded(octets, 0).ok()?;
     let changed = size as i128 + difference(coded);
@@ -79,11 +81,15 @@ fn changed_size(size: u128, octets: &[u8]) -> Option<(u128, usize)>
 }
 
 // The next size of a lace, and how many octets it takes.
-fn next_size(lacing: Lacing, before: Option<u128>, octets: &[u8]) -> Option<(u128, usize)>
+pub(crate) fn next_size(
+    lacing: Lacing,
+    before: Option<u128>,
+    octets: &[u8],
+) -> Option<(u128, usize)>
     requires { unwrap_or before 0 < 2 ^ 100 }
     ensures value { front octets.now result ≡ next_size lacing before octets.now }
     ensures bounds { IfSome result
-        (λ x. (x.1 ≤ length octets.now) × (x.0 ≤ unwrap_or before 0 + 2 ^ 72)) }
+        (λ x. (0 < x.1) × (x.1 ≤ length octets.now) × (x.0 ≤ unwrap_or before 0 + 2 ^ 72)) }
 {
     match (lacing, before) {
         (Lacing::Ebml, None) => first_size(octets),

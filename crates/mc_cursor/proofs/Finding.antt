@@ -24,7 +24,7 @@ use Rattle.mc_cursor.specs.declared.reading.Found.{Found}
 use Rattle.mc_cursor.specs.declared.reading.Found.TheVariants as found
 use Rattle.mc_cursor.specs.Reads.{found_at, found_by}
 use Rattle.mc_cursor.specs.Begins.{whole_found, FoundIn, head_in}
-use Rattle.mc_cursor.proofs.Heads.{head_join}
+use Rattle.mc_block.proofs.Heads.{head_join}
 
 differs : (a b : ℕ) → a ≢ b → (a == b) ≡ false
 differs a b h = elim (eqb_tells a b) [ inl e ↦ absurd (h e.1) | inr e ↦ e.0 ]

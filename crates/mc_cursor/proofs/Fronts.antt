@@ -19,10 +19,11 @@ use Rattle.mc_tracks.specs.Header.{body_of, as_header, header_checked, ebml_head
 use Rattle.mc_ebml.specs.Ids.{EBML_HEADER}
 use Rattle.mc_cursor.specs.declared.reading.Found.{Found}
 use Rattle.mc_cursor.specs.declared.reading.Found.TheVariants as found
-use Rattle.mc_cursor.specs.Reads.{found_at, found_by, moved_by, ends_before, Told}
+use Rattle.mc_cursor.specs.Reads.{found_at, found_by, ends_before, Told}
 use Rattle.mc_cursor.specs.Begins.{header_span, Gives}
 use Rattle.mc_cursor.specs.declared.error.OpenError.{OpenError}
-use Rattle.mc_cursor.proofs.Heads.{head_window}
+use Rattle.mc_block.specs.Fronts.{moved_by}
+use Rattle.mc_block.proofs.Heads.{head_window}
 
 take_front : (k m : ℕ) (octets : List ℕ) → k ≤ m → take k (take m octets) ≡ take k octets
 take_front k m octets le = take-take k m octets le

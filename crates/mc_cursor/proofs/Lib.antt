@@ -1,7 +1,8 @@
-pub mod Heads
 pub mod Windows
 pub mod Long
 pub mod Blocks
+pub mod Spans
+pub mod Groups
 pub mod Turning
 pub mod Stepping
 pub mod Chunks

@@ -4,7 +4,7 @@ use Rattle.std.specs.Prelude.{◌==◌}
 use Rattle.std.proofs.lemmas.Bool.Decides.{nat_tests}
 use Rattle.mc_outside.specs.Shelf.{ReadsFull}
 use Rattle.mc_cursor.specs.Reads.{found_in, found_at}
-use Rattle.mc_cursor.proofs.Heads.{head_window}
+use Rattle.mc_block.proofs.Heads.{head_window}
 
 -- what the window of 12 octets at a place tells
 found_window : (octets window : List ℕ) (place : ℕ) → window ≡ take 12 (drop place octets) → place ≤ length octets → (end : Bool) → place == length octets ≡ end

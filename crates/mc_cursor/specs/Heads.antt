@@ -3,11 +3,8 @@ use Rattle.std.specs.Prelude.{◌≡◌, ℕ, ◌<◌, ◌≤◌, List, [], leng
 use Rattle.mc_packet.specs.declared.packet.Packet.{Packet}
 use Rattle.mc_packet.specs.declared.walk.Chunk.{Chunk}
 use Rattle.mc_packet.specs.declared.walk.Ending.{Ending}
-use Rattle.mc_packet.specs.declared.walk.Ending.TheVariants.{Damaged}
 use Rattle.mc_packet.specs.declared.walk.Mark.{Mark}
 use Rattle.mc_walk.specs.declared.front.BlockMark.{BlockMark}
-use Rattle.mc_walk.specs.declared.front.Glance.{Glance}
-use Rattle.mc_walk.specs.declared.front.Glance.TheVariants as glances
 use Rattle.mc_walk.specs.declared.plan.Plan.{Plan}
 use Rattle.mc_walk.specs.Glances.{first_mark}
 use Rattle.mc_walk.specs.Parts.{mark, Part, part_at, IsMark}
@@ -69,11 +66,3 @@ mark_taken (Err ending) = Err ending
 abbrev pub head_by : Mark → Mark → Unread → Result (Option BlockMark) Ending → HeadChunk
 head_by from at b (Ok block) = record { from = from; to = mark b.stop b.level; block = block; ending = None }
 head_by from at b (Err ending) = record { from = from; to = at; block = None; ending = Some ending }
-
--- what the front of a block tells of the first of its packets, or the ending
-abbrev pub Glanced : ℕ → Result Glance Ending → Result (Option BlockMark) Ending → Type 0
-Glanced place (Err ending) taken = taken ≡ Err ending
-Glanced place (Ok glances.Skipped) taken = taken ≡ Ok None
-Glanced place (Ok (glances.Fault fault)) taken = taken ≡ Err (Damaged place fault)
-Glanced place (Ok (glances.Frame mark)) taken = taken ≡ Ok (Some mark)
-Glanced place (Ok glances.Laced) taken = ⊤

@@ -3,4 +3,5 @@ pub mod Causes
 pub mod Standing
 pub mod Steps
 pub mod Heads
+pub mod Spans
 pub mod Begins

@@ -1,8 +1,9 @@
 -- What reads on demand find of a film.
-use Rattle.std.specs.Prelude.{◌≡◌, ℕ, ◌+◌, ◌^◌, ◌<◌, ⊤, [], ◌∷◌, Bool, nat_lt, ◌==◌, if◌then◌else◌, List, length, slice_range, Option, Some, None, Result, Ok, Err}
+use Rattle.std.specs.Prelude.{◌≡◌, ℕ, ◌^◌, ◌<◌, ⊤, [], ◌∷◌, Bool, nat_lt, ◌==◌, if◌then◌else◌, List, length, slice_range, Option, Some, None, Result, Ok, Err}
 use Rattle.mc_ebml.specs.declared.read.Head.{Head}
 use Rattle.mc_ebml.specs.declared.read.EbmlError.{EbmlError}
 use Rattle.mc_ebml.specs.Element.{head_at, IsSmall}
+use Rattle.mc_block.specs.Fronts.{moved_by}
 use Rattle.mc_outside.specs.Shelf.{Files, Opened, content_of}
 use Rattle.mc_cursor.specs.declared.reading.Found.{Found}
 use Rattle.mc_cursor.specs.declared.reading.Found.TheVariants as found
@@ -14,11 +15,6 @@ Told content fact = (octets : List ℕ) → content ≡ Some octets → fact oct
 -- the same of an opened file of a shelf, whose members are named once
 abbrev pub InFile : {S : Type 0} → (S → Option Files) → (S → Opened) → S → ℕ → (List ℕ → Type 0) → Type 0
 InFile files opened shelf file fact = Told (content_of files opened shelf file) fact
-
--- a head that was read by itself, at a place of a film
-abbrev pub moved_by : ℕ → Result Head EbmlError → Result Head EbmlError
-moved_by place (Ok h) = Ok (record { id = h.id; size = h.size; body = place + h.body })
-moved_by place (Err e) = Err e
 
 abbrev pub found_by : Result Head EbmlError → Found
 found_by (Ok h) = found.Element h

@@ -4,7 +4,7 @@ ghost use Rattle.mc_outside.specs.Shelf.{OnlyReadsTo};
 ghost use Rattle.mc_walk.specs.declared.movement.Move.TheVariants as moves;
 ghost use Rattle.mc_walk.specs.declared.plan.Plan.{Plan};
 ghost use Rattle.mc_walk.specs.Moves.{StartsBehind};
-ghost use Rattle.mc_walk.specs.Walk.{stamped, time_of, moved, step_at};
+ghost use Rattle.mc_walk.specs.Walk.{stamped, moved, step_at};
 ghost use Rattle.mc_cursor.specs.Causes.{ReadCause, OnlyReads};
 ghost use Rattle.mc_cursor.specs.Reads.{InFile, found_at, Lies};
 ghost use Rattle.mc_cursor.specs.Standing.{plan_for};
@@ -86,16 +86,6 @@ fn stamp(place: u64, level: Level, time: Result<u64, EbmlError>) -> Result<Level
             end,
         }),
         Err(_) => Err(Ending::Damaged(place, Fault::BadUint)),
-    }
-}
-
-/// The time of the Cluster in which a place stands.
-pub(crate) fn cluster_time(level: Level) -> Option<u64>
-    ensures { result ≡ time_of level }
-{
-    match level {
-        Level::Segment => None,
-        Level::Cluster { time, .. } => time,
     }
 }
 

@@ -1,10 +1,9 @@
--- The first 12 octets of a SimpleBlock tell its packet, or its first fault.
-use Rattle.std.proofs.Common.{◌≡◌, ℕ, zero, suc, ◌+◌, ◌-◌, ◌≤◌, Bool, true, false, List, [], ◌∷◌, length, take, drop, Option, Some, None, Result, Ok, Err, refl, sym, ap, ◌∙◌, arith, length-take, lit≤}
+-- The first 12 octets of a block tell its packet, its lace or its first fault.
+use Rattle.std.proofs.Common.{◌≡◌, ℕ, suc, ◌+◌, ◌-◌, ◌≤◌, Bool, true, false, List, [], ◌∷◌, length, take, drop, Option, Some, None, Result, Ok, Err, refl, sym, ap, ◌∙◌, arith, lit≤}
 use Rattle.std.specs.Prelude.{IfOk, nat_lt, ◌==◌, ⊤}
 use Rattle.std.proofs.lemmas.Bool.{cond_both}
 use Rattle.std.proofs.lemmas.Bool.Decides.{nat_tests}
-use Rattle.std.proofs.lemmas.List.{drop-take}
-use Rattle.byteorder.specs.Numbers.{big_from-take}
+use Rattle.std.proofs.lemmas.List.{drop-take, drop-drop}
 use Rattle.mc_ebml.specs.declared.read.Coded.{Coded}
 use Rattle.mc_ebml.specs.declared.read.EbmlError.{EbmlError}
 use Rattle.mc_ebml.specs.Element.{width, coded_from, coded_at}
@@ -16,43 +15,22 @@ use Rattle.mc_block.specs.declared.parts.BlockBody.{BlockBody}
 use Rattle.mc_block.specs.Frames.{is_laced}
 use Rattle.mc_block.specs.Block.{◌>>=◌, number_of, track_of, behind_track, head_of, frame_time, in_range, is_key, packets_from, packets_behind, packets_of}
 use Rattle.mc_block.proofs.Laces.{single_frame}
+use Rattle.mc_block.proofs.Heads.{coded_window}
+use Rattle.mc_block.proofs.Laced.{no_lace}
 use Rattle.mc_tracks.specs.declared.track.Track.{Track}
-use Rattle.mc_walk.specs.declared.movement.Role.TheVariants as roles
-use Rattle.mc_walk.specs.Blocks.{faulted, known_track, timed, tracked, some_opened, block_element_of}
-use Rattle.mc_walk.specs.Glances.{marked, unless_laced, headed_glance, timed_glance, tracked_glance, numbered_glance, glance_of, Tells}
+use Rattle.mc_walk.specs.Blocks.{faulted, known_track, timed, tracked, some_opened}
+use Rattle.mc_walk.specs.Glances.{marked, laced_glance, unless_laced, headed_glance, timed_glance, tracked_glance, numbered_glance, glance_of, Tells}
 
--- ---- a coded number is read from the octets with which it begins
-
--- whether octets are wanting is seen in a window of them that is wide enough
-pub enough : (m w : ℕ) (r : List ℕ) → w ≤ m → nat_lt (length (take m r)) w ≡ nat_lt (length r) w
-enough m w r h = grind (arith, nat_tests, length-take m r)
+-- ---- a block's track number and its head
 
 width_all : (b : ℕ) → width b ≤ 8
 width_all b = grind (arith, nat_tests)
-
-coded_room : (m b : ℕ) (bs : List ℕ) (c : Bool) → nat_lt (length (b ∷ bs)) (width b) ≡ c → b == 0 ≡ false → 8 ≤ suc m
-    → coded_from (b ∷ bs) ≡ coded_from (take (suc m) (b ∷ bs))
-coded_room m b bs true h f le =
-    rw (f, enough (suc m) (width b) (b ∷ bs) (omega (arith, width_all b)), h) refl
-coded_room m b bs false h f le =
-    rw (f, enough (suc m) (width b) (b ∷ bs) (omega (arith, width_all b)), h, big_from-take 0 (width b) (suc m) (b ∷ bs) (omega (arith, width_all b))) refl
-
-coded_first : (m b : ℕ) (bs : List ℕ) (c : Bool) → b == 0 ≡ c → 8 ≤ suc m → coded_from (b ∷ bs) ≡ coded_from (take (suc m) (b ∷ bs))
-coded_first m b bs true h le = rw h refl
-coded_first m b bs false h le = coded_room m b bs (nat_lt (length (b ∷ bs)) (width b)) refl h le
-
-pub coded_window : (m : ℕ) (r : List ℕ) → 8 ≤ m → coded_from r ≡ coded_from (take m r)
-coded_window zero r le = absurd (omega arith)
-coded_window (suc m) [] le = refl
-coded_window (suc m) (b ∷ bs) le = coded_first m b bs (b == 0) refl le
 
 coded_narrow : (r : List ℕ) → IfOk (coded_from r) (λ n. n.width ≤ 8)
 coded_narrow [] = tt
 coded_narrow (b ∷ bs) =
     cond_both (b == 0) _ _ (λ r. IfOk r (λ n. n.width ≤ 8)) (λ e. tt) (λ e.
     cond_both (nat_lt (length (b ∷ bs)) (width b)) _ _ (λ r. IfOk r (λ n. n.width ≤ 8)) (λ e. tt) (λ e. width_all b))
-
--- ---- so are a block's track number and its head
 
 pub track_front : (body : List ℕ) → track_of (take 12 body) ≡ track_of body
 unfolding track_of coded_at
@@ -113,47 +91,88 @@ head_short octets = go (coded_at octets 0)
 
 -- ---- what is told
 
-one_frame : (place : Place) (head : BlockHead) (rest : List ℕ) (is : Bool) → in_range (frame_time place head.relative 0) ≡ is
-    → Tells (unless_laced false place head) (marked (faulted (packets_from place head (is_key None head.flags) rest 0 ((0, length rest) ∷ []))))
-one_frame place head rest true e = rw e refl
-one_frame place head rest false e = rw e refl
+one_frame : (place : Place) (head : BlockHead) (key : Bool) (octets front rest : List ℕ) (is : Bool) → in_range (frame_time place head.relative 0) ≡ is
+    → Tells octets (unless_laced false place head key front) (marked (faulted (packets_from place head key rest 0 ((0, length rest) ∷ []))))
+one_frame place head key octets front rest true e = rw e refl
+one_frame place head key octets front rest false e = rw e refl
 
-by_lacing : (laced : Bool) (place : Place) (head : BlockHead) (rest : List ℕ) → is_laced head.flags ≡ laced
-    → Tells (unless_laced laced place head) (marked (faulted (packets_behind place head (is_key None head.flags) rest)))
-by_lacing true place head rest is = tt
-by_lacing false place head rest is = rw (single_frame head.flags rest is) (one_frame place head rest (in_range (frame_time place head.relative 0)) refl)
+-- the octets that are seen of a lace
+cut_at : (at m : ℕ) (octets : List ℕ) → at ≤ m → drop at (take m octets) ≡ take (m - at) (drop at octets)
+cut_at at m octets le = cut_front at (m - at) m octets (omega (arith, le))
 
-abbrev plain : List ℕ → BlockBody
-plain body = record { octets = body; keyframe = None }
+next_dropped : (at n : ℕ) (octets others : List ℕ) → drop at octets ≡ n ∷ others → drop (at + 1) octets ≡ others
+next_dropped at n octets others is = sym (drop-drop' 1 at octets) ∙ ap (drop 1) is
+  where
+    drop-drop' : (i at : ℕ) (octets : List ℕ) → drop i (drop at octets) ≡ drop (at + i) octets
+    drop-drop' i at octets = drop-drop i at octets
 
-by_head : (place : Place) (body : List ℕ) (head : Result BlockHead BlockError) → IsShort head
-    → Tells (headed_glance place head) (marked (faulted (head >>= (λ head. packets_behind place head (is_key None head.flags) (drop head.at body)))))
-by_head place body (Ok head) short = by_lacing (is_laced head.flags) place head (drop head.at body) refl
-by_head place body (Err e) short = rw short refl
+lace_by : (place : Place) (head : BlockHead) (key : Bool) (octets : List ℕ) (k : ℕ) (rest : List ℕ) → drop head.at octets ≡ rest → is_laced head.flags ≡ true
+    → Tells octets (laced_glance place head key (take (suc k) rest)) (marked (faulted (packets_behind place head key (drop head.at octets))))
+lace_by place head key octets k [] is laced = rw (is, no_lace head.flags laced) refl
+lace_by place head key octets k (n ∷ others) is laced = record {
+  laced = laced;
+  counted = is ∙ ap (λ (xs : List ℕ). n ∷ xs) (sym (next_dropped head.at n octets others is));
+  same = refl;
+}
 
-in_time : (place scale : ℕ) (time : Option ℕ) (front body : List ℕ) (duration : Option ℕ) → head_of front ≡ head_of body
-    → Tells (timed_glance place scale time front duration) (marked (timed place scale time (plain body) duration))
+by_lacing : (laced : Bool) (place : Place) (head : BlockHead) (key : Bool) (front octets : List ℕ) → is_laced head.flags ≡ laced → head.at ≤ 11 → front ≡ take 12 octets
+    → Tells octets (unless_laced laced place head key front) (marked (faulted (packets_behind place head key (drop head.at octets))))
+by_lacing true place head key front octets is near cut =
+    let k : 12 - head.at ≡ suc (11 - head.at) = omega (arith, near) in
+    let seen : drop head.at front ≡ take (suc (11 - head.at)) (drop head.at octets) = ap (drop head.at) cut ∙ cut_at head.at 12 octets (omega (arith, near)) ∙ rw k refl in
+    rw seen (lace_by place head key octets (11 - head.at) (drop head.at octets) refl is)
+by_lacing false place head key front octets is near cut =
+    rw (single_frame head.flags (drop head.at octets) is) (one_frame place head key octets front (drop head.at octets) (in_range (frame_time place head.relative 0)) refl)
+
+abbrev body_of : List ℕ → Option Bool → BlockBody
+body_of octets keyframe = record { octets = octets; keyframe = keyframe }
+
+-- a head ends within 11 octets
+abbrev IsNear : Result BlockHead BlockError → Type 0
+IsNear (Ok head) = head.at ≤ 11
+IsNear (Err e) = ⊤
+
+head_near : (octets : List ℕ) → IsNear (head_of octets)
+unfolding head_of coded_at
+head_near octets = go (coded_from octets) (coded_narrow octets)
+  where
+    behind : (n : Coded) (rest : List ℕ) → n.width ≤ 8 → IsNear (behind_track n rest)
+    behind n [] le = tt
+    behind n (a ∷ []) le = tt
+    behind n (a ∷ b ∷ []) le = tt
+    behind n (a ∷ b ∷ flags ∷ rest) le = omega (arith, le)
+
+    go : (c : Result Coded EbmlError) → IfOk c (λ n. n.width ≤ 8) → IsNear (number_of c >>= (λ n. behind_track n (drop n.width octets)))
+    go (Ok n) le = behind n (drop n.width octets) le
+    go (Err e) le = tt
+
+by_head : (place : Place) (keyframe : Option Bool) (front octets : List ℕ) (head : Result BlockHead BlockError) → IsShort head → IsNear head → front ≡ take 12 octets
+    → Tells octets (headed_glance place keyframe front head) (marked (faulted (head >>= (λ head. packets_behind place head (is_key keyframe head.flags) (drop head.at octets)))))
+by_head place keyframe front octets (Ok head) short near cut = by_lacing (is_laced head.flags) place head (is_key keyframe head.flags) front octets refl near cut
+by_head place keyframe front octets (Err e) short near cut = rw short refl
+
+in_time : (place scale : ℕ) (time : Option ℕ) (keyframe : Option Bool) (front octets : List ℕ) (duration : Option ℕ) → head_of front ≡ head_of octets → front ≡ take 12 octets
+    → Tells octets (timed_glance place scale time keyframe front duration) (marked (timed place scale time (body_of octets keyframe) duration))
 unfolding packets_of
-in_time place scale None front body duration same = refl
-in_time place scale (Some time) front body duration same =
-    rw same (by_head (record { pos = place; cluster_time = time; scale = scale; duration = duration }) body (head_of body) (head_short body))
+in_time place scale None keyframe front octets duration same cut = refl
+in_time place scale (Some time) keyframe front octets duration same cut =
+    rw same (by_head (record { pos = place; cluster_time = time; scale = scale; duration = duration }) keyframe front octets (head_of octets) (head_short octets) (head_near octets) cut)
 
-by_track : (place scale : ℕ) (time : Option ℕ) (front body : List ℕ) (track : Option Track) → head_of front ≡ head_of body
-    → Tells (tracked_glance place scale time front track) (marked (tracked place scale time (plain body) track))
-by_track place scale time front body None same = refl
-by_track place scale time front body (Some t) same = in_time place scale time front body t.duration same
+by_track : (place scale : ℕ) (time : Option ℕ) (keyframe : Option Bool) (front octets : List ℕ) (track : Option Track) → head_of front ≡ head_of octets → front ≡ take 12 octets
+    → Tells octets (tracked_glance place scale time keyframe front track) (marked (tracked place scale time (body_of octets keyframe) track))
+by_track place scale time keyframe front octets None same cut = refl
+by_track place scale time keyframe front octets (Some t) same cut = in_time place scale time keyframe front octets t.duration same cut
 
-by_number : (tracks : List Track) (place scale : ℕ) (time : Option ℕ) (front body : List ℕ) (number : Result ℕ BlockError) → number ≡ track_of body → IsShort number → head_of front ≡ head_of body
-    → Tells (numbered_glance tracks place scale time front number) (marked (some_opened tracks place scale time (plain body)))
-by_number tracks place scale time front body (Ok n) is short same = rw (← is) (by_track place scale time front body (known_track tracks n) same)
-by_number tracks place scale time front body (Err e) is short same = rw (← is, short) refl
+by_number : (tracks : List Track) (place scale : ℕ) (time : Option ℕ) (keyframe : Option Bool) (front octets : List ℕ) (number : Result ℕ BlockError)
+    → number ≡ track_of octets → IsShort number → head_of front ≡ head_of octets → front ≡ take 12 octets
+    → Tells octets (numbered_glance tracks place scale time keyframe front number) (marked (some_opened tracks place scale time (body_of octets keyframe)))
+by_number tracks place scale time keyframe front octets (Ok n) is short same cut = rw (← is) (by_track place scale time keyframe front octets (known_track tracks n) same cut)
+by_number tracks place scale time keyframe front octets (Err e) is short same cut = rw (← is, short) refl
 
--- the octets with which a SimpleBlock begins tell its first packet
-pub tells : (tracks : List Track) (scale place : ℕ) (time : Option ℕ) (front body : List ℕ) → length body ≤ 67108864 → front ≡ take 12 body
-    → Tells (glance_of tracks scale place time front) (marked (block_element_of tracks scale place time roles.SimpleBlock body))
-unfolding block_element_of
-tells tracks scale place time front body small is =
-    let whole : nat_lt 67108864 (length body) ≡ false = grind (arith, nat_tests) in
-    let number : track_of front ≡ track_of body = ap track_of is ∙ track_front body in
-    let head : head_of front ≡ head_of body = ap head_of is ∙ head_front body in
-    rw (whole, number) (by_number tracks place scale time front body (track_of body) refl (track_short body) head)
+-- the octets with which a block begins tell its first packet, or its lace
+pub tells : (tracks : List Track) (scale place : ℕ) (time : Option ℕ) (keyframe : Option Bool) (front octets : List ℕ) → front ≡ take 12 octets
+    → Tells octets (glance_of tracks scale place time keyframe front) (marked (some_opened tracks place scale time (record { octets = octets; keyframe = keyframe })))
+tells tracks scale place time keyframe front octets cut =
+    let number : track_of front ≡ track_of octets = ap track_of cut ∙ track_front octets in
+    let head : head_of front ≡ head_of octets = ap head_of cut ∙ head_front octets in
+    rw number (by_number tracks place scale time keyframe front octets (track_of octets) refl (track_short octets) head cut)

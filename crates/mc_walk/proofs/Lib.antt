@@ -9,3 +9,5 @@ pub mod Shaped
 pub mod Opened
 pub mod Again
 pub mod Headed
+pub mod Lacing
+pub mod Groups

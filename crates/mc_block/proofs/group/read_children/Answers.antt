@@ -3,7 +3,11 @@ use Rattle.mc_block.proofs.Found.{begins, goes_on, breaks, ends, is_done, kept}
 use Rattle.mc_block.proofs.group.read_children.Goals as goal
 
 pub loop-init : goal.loop-init
-loop-init c = record { within = omega arith; lies = tt; joined = begins c.args.octets.now }
+loop-init c = record {
+  within = omega arith;
+  lies = rw c.new-found.ensures tt;
+  joined = rw c.new-found.ensures (begins c.args.octets.now);
+}
 
 pub returns-then-at-octets-clause-value : goal.returns-then-at-octets-clause-value
 returns-then-at-octets-clause-value c = ends c.loop.found (length c.args.octets.now) c.loop.counter c.loop.at c.args.octets.now _ c.if-at-octets.true c.loop.invariant.joined

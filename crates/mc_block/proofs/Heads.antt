@@ -1,6 +1,6 @@
--- The head of an element is read from the 12 octets that begin there.
-use Rattle.std.proofs.Common.{◌≡◌, ℕ, zero, suc, ◌+◌, ◌-◌, ◌≤◌, Bool, true, false, List, [], ◌∷◌, length, take, drop, Result, Ok, Err, refl, sym, ap, ◌∙◌, arith, zero-add, add_assoc, lit≤}
-use Rattle.std.specs.Prelude.{⊤, nat_lt}
+-- A coded number and the head of an element are read from the octets with which they begin.
+use Rattle.std.proofs.Common.{◌≡◌, ℕ, zero, suc, ◌+◌, ◌-◌, ◌≤◌, Bool, true, false, List, [], ◌∷◌, length, take, drop, Result, Ok, Err, refl, sym, ap, ◌∙◌, arith, zero-add, add_assoc, lit≤, length-take}
+use Rattle.std.specs.Prelude.{⊤, nat_lt, ◌==◌}
 use Rattle.std.proofs.lemmas.List.{drop-take, drop-drop}
 use Rattle.std.proofs.lemmas.Bool.Decides.{nat_tests}
 use Rattle.byteorder.specs.Numbers.{big_from-take}
@@ -9,8 +9,34 @@ use Rattle.mc_ebml.specs.declared.read.Head.{Head}
 use Rattle.mc_ebml.specs.declared.read.Coded.{Coded}
 use Rattle.mc_ebml.specs.declared.read.EbmlError.{EbmlError}
 use Rattle.mc_ebml.specs.Element.{width, id_from, coded_from, size_of, id_at, coded_at, size_at, head_at, ◌>>=◌}
-use Rattle.mc_walk.proofs.Glancing.{enough, coded_window}
-use Rattle.mc_cursor.specs.Reads.{moved_by}
+use Rattle.mc_block.specs.Fronts.{moved_by}
+
+-- ---- a coded number is read from the octets with which it begins
+
+-- whether octets are wanting is seen in a window of them that is wide enough
+pub enough : (m w : ℕ) (r : List ℕ) → w ≤ m → nat_lt (length (take m r)) w ≡ nat_lt (length r) w
+enough m w r h = grind (arith, nat_tests, length-take m r)
+
+width_all : (b : ℕ) → width b ≤ 8
+width_all b = grind (arith, nat_tests)
+
+coded_room : (m b : ℕ) (bs : List ℕ) (c : Bool) → nat_lt (length (b ∷ bs)) (width b) ≡ c → b == 0 ≡ false → 8 ≤ suc m
+    → coded_from (b ∷ bs) ≡ coded_from (take (suc m) (b ∷ bs))
+coded_room m b bs true h f le =
+    rw (f, enough (suc m) (width b) (b ∷ bs) (omega (arith, width_all b)), h) refl
+coded_room m b bs false h f le =
+    rw (f, enough (suc m) (width b) (b ∷ bs) (omega (arith, width_all b)), h, big_from-take 0 (width b) (suc m) (b ∷ bs) (omega (arith, width_all b))) refl
+
+coded_first : (m b : ℕ) (bs : List ℕ) (c : Bool) → b == 0 ≡ c → 8 ≤ suc m → coded_from (b ∷ bs) ≡ coded_from (take (suc m) (b ∷ bs))
+coded_first m b bs true h le = rw h refl
+coded_first m b bs false h le = coded_room m b bs (nat_lt (length (b ∷ bs)) (width b)) refl h le
+
+pub coded_window : (m : ℕ) (r : List ℕ) → 8 ≤ m → coded_from r ≡ coded_from (take m r)
+coded_window zero r le = absurd (omega arith)
+coded_window (suc m) [] le = refl
+coded_window (suc m) (b ∷ bs) le = coded_first m b bs (b == 0) refl le
+
+-- ---- the ID
 
 width_id : (b : ℕ) → nat_lt b 16 ≡ false → width b ≤ 4
 width_id b h = grind (arith, nat_tests)
@@ -18,8 +44,6 @@ width_id b h = grind (arith, nat_tests)
 abbrev pub shifted : ℕ → Result (ℕ × ℕ) EbmlError → Result (ℕ × ℕ) EbmlError
 shifted at (Ok x) = Ok (x.0, at + x.1)
 shifted at (Err e) = Err e
-
--- ---- the ID
 
 id_room : (at m b : ℕ) (bs : List ℕ) (c : Bool) → nat_lt (length (b ∷ bs)) (width b) ≡ c → nat_lt b 16 ≡ false → 4 ≤ suc m
     → id_from at (b ∷ bs) ≡ shifted at (id_from 0 (take (suc m) (b ∷ bs)))

@@ -1,12 +1,13 @@
 -- Packets in rising order are parted by a place, and what halving finds is the first one from it on.
-use Rattle.std.proofs.Common.{◌≡◌, ℕ, ◌+◌, ◌-◌, ◌<◌, ◌≤◌, true, false, zero, suc, List, [], ◌∷◌, length, slice_index_or, arith, refl, sym, ◌∙◌, inl, inr}
-use Rattle.std.specs.Prelude.{slice_get}
+use Rattle.std.proofs.Common.{◌≡◌, ℕ, ◌+◌, ◌-◌, ◌*◌, ◌/◌, ◌<◌, ◌≤◌, min, true, false, zero, suc, List, [], ◌∷◌, length, slice_index_or, arith, refl, ap, sym, ◌∙◌, inl, inr}
+use Rattle.std.specs.Prelude.{slice_get, Some, None}
 use Rattle.std.specs.List.{find, AllWithin}
 use Rattle.std.specs.List.Sorted.{IsPartitionedBy}
-use Rattle.std.proofs.lemmas.Bool.{ltb-true, ltb-false, lt-ltb, le-leb, lt-leb, leb-true, leb-false, le-ltb, cases_lt}
+use Rattle.std.proofs.lemmas.Bool.{ltb-true, ltb-false, lt-ltb, le-leb, lt-leb, cases_Bool}
+use Rattle.std.proofs.lemmas.List.{get_or_default}
 use Rattle.std.proofs.lemmas.Option.{slice_get-get_or}
 use Rattle.mc_packet.specs.declared.packet.Packet.{Packet}
-use Rattle.mc_queue.specs.Places.{IsIndexAt, Rise, is_before, is_behind, is_from, place}
+use Rattle.mc_queue.specs.Places.{Rise, is_before, is_from, place}
 
 from_least : (track from to j : ℕ) (d : Packet) (ps : List Packet) → Rise track from to ps → j < length ps → from ≤ place (slice_index_or ps j d)
 from_least track from to j d [] r l = absurd (omega arith)
@@ -41,44 +42,36 @@ found_at cut (p ∷ ps) (suc i) h k =
     let n = lt-leb cut (place p) (ltb-true (place p) cut y) in
     rw n (found_at cut ps i (λ a d l m. h (suc a) d (omega arith) (omega arith)) (λ a d l m. k (suc a) d (omega arith) (omega arith)))
 
--- the packet in front of an index that is not the first
-at_front : (cut i : ℕ) (d : Packet) (ps : List Packet) → suc i ≤ length ps → is_behind cut (suc i) ps ≡ is_from cut (slice_index_or ps i d)
-at_front cut i d ps m =
-    let one : suc i - 1 ≡ i = omega arith in
-    let e = slice_get-get_or ps i d (omega arith) in
-    let y = lt-ltb 0 (suc i) (omega arith) in
-    rw (y, one, e) refl
+-- where a packet stands before the place, those in front of it do too
+pub low_on : (cut mid : ℕ) (x : Packet) (ps : List Packet) → IsPartitionedBy (is_before cut) ps → mid < length ps → x ≡ slice_index_or ps mid x → is_before cut x ≡ true
+    → AllWithin (λ p. is_before cut p ≡ true) ps 0 (mid + 1)
+low_on cut mid x ps h l e t = λ j d a b.
+    let f : is_before cut (slice_index_or ps mid d) ≡ true = ap (λ p. is_before cut p) (sym (e ∙ get_or_default ps mid x d l)) ∙ t in
+    h j mid d (omega arith) l f
 
-not_before : (cut : ℕ) (p : Packet) → is_from cut p ≡ true → is_before cut p ≡ false
-not_before cut p e = let l = leb-true cut (place p) e in le-ltb (place p) cut l
+-- and where it does not, those behind it do not either
+pub high_on : (cut mid : ℕ) (x : Packet) (ps : List Packet) → IsPartitionedBy (is_before cut) ps → mid < length ps → x ≡ slice_index_or ps mid x → is_before cut x ≡ false
+    → AllWithin (λ p. is_before cut p ≡ false) ps mid (length ps)
+high_on cut mid x ps h l e t = λ j d a b.
+    let f : is_before cut (slice_index_or ps mid d) ≡ false = ap (λ p. is_before cut p) (sym (e ∙ get_or_default ps mid x d l)) ∙ t in
+    elim (cases_Bool (is_before cut (slice_index_or ps j d))) [
+      | inl y ↦ absurd (no (sym (h mid j d a b y) ∙ f))
+      | inr n ↦ n
+    ]
+  where
+    no : true ≡ false → ⊥
+    no e = cc
 
-then_before : (cut : ℕ) (p : Packet) → is_from cut p ≡ false → is_before cut p ≡ true
-then_before cut p e = let l = leb-false cut (place p) e in lt-ltb (place p) cut l
+-- what stands at an index below the length
+pub got_at : (ps : List Packet) (i : ℕ) (x : Packet) → i < length ps → x ≡ slice_index_or ps i x → slice_get ps i ≡ Some x
+got_at ps i x l e = slice_get-get_or ps i x l ∙ ap (λ (p : Packet). Some p) (sym e)
 
--- going back by one, where the packet in front is not before the place
-pub one_back : (cut i : ℕ) (ps : List Packet) → i ≤ length ps → AllWithin (λ p. is_before cut p ≡ false) ps i (length ps) → is_behind cut i ps ≡ true
-    → (0 < i) × AllWithin (λ p. is_before cut p ≡ false) ps (i - 1) (length ps)
-one_back cut zero ps m k e = absurd (let f : false ≡ true = e in cc)
-one_back cut (suc i) ps m k e = (
-  omega arith,
-  λ j d l n.
-      let one : suc i - 1 ≡ i = omega arith in
-      elim (cases_lt i j) [
-        | inl z ↦ k j d (omega arith) n
-        | inr z ↦
-            let same : j ≡ i = omega arith in
-            let f = at_front cut i d ps m in
-            rw same (not_before cut (slice_index_or ps i d) (sym f ∙ e))
-      ],
-)
+pub got_none : (ps : List Packet) (i : ℕ) → length ps ≤ i → slice_get ps i ≡ None
+got_none [] i l = refl
+got_none (p ∷ ps) zero l = absurd (omega arith)
+got_none (p ∷ ps) (suc i) l = got_none ps i (omega arith)
 
--- where no packet stands in front, or one before the place, the index is where the place is
-pub is_index : (cut i : ℕ) (ps : List Packet) → IsPartitionedBy (is_before cut) ps → i ≤ length ps → AllWithin (λ p. is_before cut p ≡ false) ps i (length ps) → is_behind cut i ps ≡ false
-    → IsIndexAt cut i ps
-is_index cut zero ps h m k e = (λ j d l n. absurd (omega arith), k)
-is_index cut (suc i) ps h m k e = (
-  λ j d l n.
-      let f = at_front cut i d ps m in
-      h j i d (omega arith) (omega arith) (then_before cut (slice_index_or ps i d) (sym f ∙ e)),
-  k,
-)
+-- what one look takes of the steps that are left for so many packets, of which the near ones are looked at first
+pub cost_step : (w w' near near' : ℕ) → w' < w → (near ≡ 0 → 2 * w' ≤ w) → near' ≡ near - 1 → 1 + (w' / 256 + min w' 256 + near') ≤ w / 256 + min w 256 + near
+cost_step w w' zero near' l h e = let k = h refl in omega arith
+cost_step w w' (suc n) near' l h e = omega arith

@@ -9,3 +9,12 @@ pub mod Halving
 pub mod Rests
 pub mod Cutting
 pub mod Timing
+pub mod Extremes
+pub mod Renewed
+pub mod Shapes
+pub mod FromBlocks
+pub mod Wanted
+pub mod Filling
+pub mod Packing
+pub mod Nearest
+pub mod NextSync

@@ -1,6 +1,6 @@
 -- The weight of the packets from a place on, as the place moves.
 use Rattle.std.proofs.Common.{◌≡◌, ℕ, ◌+◌, ◌≤◌, true, false, zero, suc, List, [], ◌∷◌, ◌++◌, drop, length, arith, refl, ap, sym, ◌∙◌, inl, inr}
-use Rattle.std.specs.Prelude.{slice_get, nat_le, if◌then◌else◌}
+use Rattle.std.specs.Prelude.{nat_le, if◌then◌else◌}
 use Rattle.std.specs.List.{AllWithin}
 use Rattle.std.proofs.lemmas.Bool.{cases_Bool, ltb-true, ltb-false, le-leb, lt-leb, leb-false}
 use Rattle.std.proofs.lemmas.List.Sums.{sum_by-cons}
@@ -8,7 +8,7 @@ use Rattle.mc_packet.specs.declared.packet.Packet.{Packet}
 use Rattle.mc_packet.specs.declared.packet.Pos.{Pos}
 use Rattle.mc_journal.specs.Films.{rank}
 use Rattle.mc_queue.specs.Union.{later}
-use Rattle.mc_queue.specs.Places.{place, weight_of, weight_at, weights, is_before, is_from, from_place}
+use Rattle.mc_queue.specs.Places.{place, weight_of, weights, is_before, is_from, from_place}
 use Rattle.mc_queue.proofs.Rising.{weights_of_two, from_two}
 
 -- where those before an index stand before the place, and the others do not, these are those from the place on
@@ -25,17 +25,6 @@ rest_is cut (p ∷ ps) (suc i) h k =
     let y = h 0 p (omega arith) (omega arith) in
     let n = lt-leb cut (place p) (ltb-true (place p) cut y) in
     rw n (rest_is cut ps i (λ a d x z. h (suc a) d (omega arith) (omega arith)) (λ a d x z. k (suc a) d (omega arith) (omega arith)))
-
-drop_none : (i : ℕ) → weights (drop i []) ≡ 0
-drop_none zero = refl
-drop_none (suc i) = refl
-
--- what is left weighs less by the packet at an index
-pub weight_of_rest : (ps : List Packet) (i : ℕ) → weight_at (slice_get ps i) + weights (drop (i + 1) ps) ≡ weights (drop i ps)
-weight_of_rest [] zero = refl
-weight_of_rest [] (suc i) = let n = drop_none (suc i + 1) in rw n refl
-weight_of_rest (p ∷ ps) zero = sym (sum_by-cons weight_of p ps)
-weight_of_rest (p ∷ ps) (suc i) = let e : suc i + 1 ≡ suc (i + 1) = omega arith in rw e (weight_of_rest ps i)
 
 pub rest_within : (ps : List Packet) (i : ℕ) → weights (drop i ps) ≤ weights ps
 rest_within [] zero = omega arith

@@ -1,12 +1,12 @@
 -- Where the packets of two queues differ in place or time.
-use Rattle.std.specs.Prelude.{◌≡◌, ℕ, ◌<◌, ◌≤◌, ◌==◌, nat_lt, Bool, false, ◌&&◌, if◌then◌else◌, List, [], ◌∷◌, ℤ, int_le, Option, Some, None}
+use Rattle.std.specs.Prelude.{◌≡◌, ℕ, ◌<◌, ◌≤◌, ◌==◌, nat_lt, Bool, false, ◌&&◌, if◌then◌else◌, List, [], ◌∷◌, drop, length, ℤ, int_le, Option, Some, None}
 use Rattle.std.specs.List.{find}
 use Rattle.std.specs.Option.{option_map}
 use Rattle.mc_packet.specs.declared.packet.Packet.{Packet}
 use Rattle.mc_packet.specs.declared.packet.Pos.{Pos}
 use Rattle.mc_journal.specs.Films.{rank}
 use Rattle.mc_queue.specs.declared.differences.Difference.{Difference}
-use Rattle.mc_queue.specs.Places.{place, is_before}
+use Rattle.mc_queue.specs.Places.{place, before, is_before}
 
 -- ---- by the time at each place
 
@@ -78,3 +78,7 @@ difference_of end (p ∷ ps) [] = told_of (head_upto end (p ∷ ps)) None
 difference_of end (p ∷ ps) (q ∷ qs) =
     if are_same (head_upto end (p ∷ ps)) (head_upto end (q ∷ qs)) then difference_of end ps qs
     else told_of (head_upto end (p ∷ ps)) (head_upto end (q ∷ qs))
+
+-- the same from one place up to another, of all packets of two queues
+abbrev pub differ_from : ℕ → ℕ → List Packet → List Packet → Option Difference
+differ_from from to ps qs = difference_of to (drop (length (before from ps)) ps) (drop (length (before from qs)) qs)

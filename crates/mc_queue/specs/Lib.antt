@@ -4,3 +4,5 @@ pub mod Differences
 pub mod Union
 pub mod Films
 pub mod Times
+pub mod Blocks
+pub mod Wants

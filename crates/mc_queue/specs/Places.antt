@@ -1,5 +1,5 @@
 -- Packets of one track in rising order, and those of them before a place, at or behind it, or between two.
-use Rattle.std.specs.Prelude.{◌≡◌, ℕ, ◌+◌, ◌-◌, true, false, slice_get, ◌≤◌, ◌<◌, nat_le, nat_lt, Bool, ◌&&◌, if◌then◌else◌, Option, Some, None, List, [], ◌∷◌, length, filter, sum_by}
+use Rattle.std.specs.Prelude.{◌≡◌, ℕ, ◌+◌, true, false, ◌≤◌, ◌<◌, nat_le, nat_lt, Bool, ◌&&◌, if◌then◌else◌, Option, Some, None, List, [], ◌∷◌, length, filter, sum_by}
 use Rattle.std.specs.List.{AllWithin}
 use Rattle.mc_packet.specs.declared.packet.Packet.{Packet}
 use Rattle.mc_journal.specs.Films.{rank}
@@ -11,11 +11,6 @@ place p = rank p.pos
 -- what a packet counts for: the octets of its payload, and 64 more
 abbrev pub weight_of : Packet → ℕ
 weight_of p = length p.body + 64
-
--- that of a packet where there is one
-abbrev pub weight_at : Option Packet → ℕ
-weight_at None = 0
-weight_at (Some p) = weight_of p
 
 -- the sum of their weights
 abbrev pub weights : List Packet → ℕ
@@ -42,6 +37,13 @@ from_place cut ps = filter (is_from cut) ps
 abbrev pub within : ℕ → ℕ → List Packet → List Packet
 within from to ps = filter (λ p. is_from from p && is_before to p) ps
 
+-- how many packets stand before one place, or at another or behind it, and what these weigh
+abbrev pub outside : ℕ → ℕ → List Packet → ℕ
+outside from to ps = length (before from ps) + length (from_place to ps)
+
+abbrev pub weight_outside : ℕ → ℕ → List Packet → ℕ
+weight_outside from to ps = weights (before from ps) + weights (from_place to ps)
+
 -- the packets from the first one on that does not stand before the place
 abbrev pub behind : ℕ → List Packet → List Packet
 behind cut [] = []
@@ -51,15 +53,6 @@ behind cut (p ∷ ps) = if is_before cut p then behind cut ps else p ∷ ps
 abbrev pub DropsFirst : ℕ → List Packet → List Packet → Option ℕ → Type 0
 DropsFirst cut old new None = (new ≡ old) × (behind cut old ≡ old)
 DropsFirst cut old new (Some weight) = (behind cut new ≡ behind cut old) × (weight + weights new ≡ weights old) × (length new < length old)
-
--- there is a packet, and it stands at the place or behind it
-abbrev pub is_from_at : ℕ → Option Packet → Bool
-is_from_at cut None = false
-is_from_at cut (Some p) = is_from cut p
-
--- there is a packet in front of the index, and it stands at the place or behind it
-abbrev pub is_behind : ℕ → ℕ → List Packet → Bool
-is_behind cut i ps = nat_lt 0 i && is_from_at cut (slice_get ps (i - 1))
 
 -- the packets in front of the index stand before the place, and the others do not
 abbrev pub IsIndexAt : ℕ → ℕ → List Packet → Type 0

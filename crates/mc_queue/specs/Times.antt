@@ -1,5 +1,5 @@
 -- The least and the greatest time of packets, of sync points or of all, past a time.
-use Rattle.std.specs.Prelude.{◌≡◌, ◌⊎◌, Bool, true, ◌&&◌, ◌||◌, not, if◌then◌else◌, List, [], ◌∷◌, ℤ, int_le, Option, Some, None, IfSome}
+use Rattle.std.specs.Prelude.{◌≡◌, ◌⊎◌, Bool, true, ◌&&◌, ◌||◌, not, List, [], ◌∷◌, ℤ, int_le, Option, Some, None, IfSome}
 use Rattle.std.specs.List.{AllByRecursion}
 use Rattle.mc_packet.specs.declared.packet.Packet.{Packet}
 use Rattle.mc_packet.specs.declared.choice.Dir.{Dir}
@@ -32,13 +32,3 @@ IsReached dir (Some t) time = comes_first dir t time ≡ true
 pub record IsNearest (dir : Dir) (test : Packet → Bool) (ps : List Packet) (time : Option ℤ) : Type 0 where
   pub first : AllByRecursion (λ p. test p ≡ true → IsReached dir time p.time) ps
   pub met : IfSome time (λ t. AnyOf (λ p. (test p ≡ true) × (p.time ≡ t)) ps)
-
--- ---- the parts of a walk
-
-abbrev pub nearer : Dir → Option ℤ → ℤ → Option ℤ
-nearer dir None time = Some time
-nearer dir (Some t) time = if comes_first dir t time then Some t else Some time
-
-abbrev pub nearer_of : Dir → Bool → Option ℤ → Option ℤ → Option Packet → Option ℤ
-nearer_of dir any past best None = best
-nearer_of dir any past best (Some p) = if is_wanted dir any past p then nearer dir best p.time else best

@@ -1,5 +1,5 @@
 -- Two queues of one track whose intervals meet: where they differ, and both together.
-use Rattle.std.specs.Prelude.{◌≡◌, ℕ, ◌+◌, ◌≤◌, ◌<◌, nat_le, if◌then◌else◌, List, [], ◌++◌, length, Option, Result, Ok, Err}
+use Rattle.std.specs.Prelude.{◌≡◌, ℕ, ◌+◌, ◌≤◌, ◌<◌, nat_le, if◌then◌else◌, List, [], ◌++◌, drop, length, take, Option, Result, Ok, Err}
 use Rattle.mc_packet.specs.declared.packet.Packet.{Packet}
 use Rattle.mc_packet.specs.declared.packet.Pos.{Pos}
 use Rattle.mc_journal.specs.Films.{rank}
@@ -44,6 +44,10 @@ in_front q o = before (rank q.from) o.packets
 
 abbrev pub behind_all : QueueState → QueueState → List Packet
 behind_all q o = from_place (rank q.to) o.packets
+
+-- the packets of another list before one place, those of a list, and those of the other at another place or behind it
+abbrev pub joined : ℕ → ℕ → List Packet → List Packet → List Packet
+joined from to ps qs = take (length (before from qs)) qs ++ (ps ++ drop (length (before to qs)) qs)
 
 -- the packets of both, each once: where both intervals have a place, those of the first
 abbrev pub united : QueueState → QueueState → List Packet

@@ -2,7 +2,7 @@ ghost use Rattle.std.specs.Prelude.{◌≡◌, ◌+◌, ◌≤◌, length, drop}
 ghost use Rattle.std.specs.Option.{option_copied};
 ghost use Rattle.mc_journal.specs.Films.{rank};
 ghost use Rattle.mc_queue.specs.Places.{before, from_place};
-ghost use Rattle.mc_queue.specs.Differences.{are_same, difference_of, head_by, head_upto, of_two, only_other, only_ours, told_of};
+ghost use Rattle.mc_queue.specs.Differences.{are_same, differ_from, head_by, head_upto, of_two, only_other, only_ours, told_of};
 
 use crate::merging::count_before;
 use crate::place::{is_at, is_before};
@@ -100,7 +100,7 @@ pub(crate) fn compare(
     from: Pos,
     to: Pos,
 ) -> Option<Difference>
-    ensures { result ≡ difference_of (rank to) (drop (length (before (rank from) ours.now.items)) ours.now.items) (drop (length (before (rank from) theirs.now.items)) theirs.now.items) }
+    ensures { result ≡ differ_from (rank from) (rank to) ours.now.items theirs.now.items }
 {
     let mut i = count_before(ours, from);
     let mut j = count_before(theirs, from);

@@ -4,16 +4,25 @@
 //! it as its track, its interval, its list of packets and its spare room (`specs/Queue`).
 #![tactic(auto)]
 
+mod block;
+mod blocks;
 mod differences;
+mod following;
+mod kept;
 mod looking;
 mod lookups;
 mod merging;
 mod parts;
 mod place;
 mod queue;
+mod steps;
 mod times;
+mod wants;
 
+pub use block::Block;
 pub use differences::Difference;
+pub use kept::Summary;
 pub use mc_packet::NoMemory;
 pub use place::{earlier, is_before, is_upto, later, rank_of};
 pub use queue::{Queue, UnionError};
+pub use steps::Steps;

@@ -1,76 +1,83 @@
-ghost use Rattle.std.specs.Prelude.{◌≡◌, drop, reverse, slice_get};
-ghost use Rattle.std.specs.List.{find, list_any};
-ghost use Rattle.std.specs.Option.{option_copied, option_map};
-ghost use Rattle.mc_journal.specs.Films.{rank};
+ghost use Rattle.std.specs.Prelude.{◌≡◌, ◌+◌, ◌-◌, ◌/◌, ◌≤◌, ◌<◌, length, min};
+ghost use Rattle.std.specs.List.{find};
 ghost use Rattle.std.specs.List.Sorted.{IsPartitionedBy};
-ghost use Rattle.mc_queue.specs.Places.{IsIndexAt, is_before, is_behind, is_from, is_from_at};
-ghost use Rattle.mc_queue.specs.Queue.{first_of, first_that, place_or, last_that, is_sync, is_sync_before, is_sync_from, is_sync_upto};
+ghost use Rattle.std.specs.Option.{option_copied};
+ghost use Rattle.mc_journal.specs.Films.{rank};
+ghost use Rattle.mc_queue.specs.Places.{IsIndexAt, is_before, is_from};
+ghost use Rattle.mc_queue.specs.Queue.{place_or};
+ghost use Rattle.mc_queue.specs.Blocks.{bound, halving_bound};
 
-use crate::place::{is_before, is_upto};
+use crate::blocks::Blocks;
+use crate::place::is_before;
+use crate::steps::Steps;
 use mc_packet::{Packet, Pos};
-use std::collections::VecDeque;
+use std::sync::ledger::{Blank, Ledger};
 
 /// How many packets at the end are looked at one by one, before a place is found by halving.
 const NEAR: usize = 4;
 
-fn is_from_at(packet: Option<&Packet>, head: Pos) -> bool
-    ensures { result ≡ is_from_at (rank head) (option_copied packet.entry) }
+/// Where the next packet is looked at: near the end, or half way.
+fn probe(low: usize, high: usize, near: usize) -> usize
+    requires order { low < high }
+    ensures within { (low ≤ result) × (result < high) }
+    ensures half { near ≡ 0 → result ≡ low + (high - low) / 2 }
 {
-    match packet {
-        Some(packet) => is_upto(head, packet.pos),
-        None => false,
+    if near > 0 {
+        high - 1
+    } else {
+        low + (high - low) / 2
     }
-}
-
-/// Whether there is a packet in front of an index, and it stands at a place or behind it.
-fn is_behind(packets: &VecDeque<Packet>, at: usize, head: Pos) -> bool
-    ensures { result ≡ is_behind (rank head) at packets.now.items }
-{
-    at > 0 && is_from_at(get_at(packets, at - 1), head)
 }
 
 /// The index from which on packets stand at a place or behind it. The last packets are tried first,
 /// since a reader that reads what was just fed is there; then it is found by halving.
-pub(crate) fn index_at(packets: &VecDeque<Packet>, head: Pos) -> usize
-    requires parted { IsPartitionedBy (is_before (rank head)) packets.now.items }
-    ensures { IsIndexAt (rank head) result packets.now.items }
+pub(crate) fn index_at<L: Ledger>(blocks: &Blocks, head: Pos, steps: &mut Steps<L>) -> usize
+    requires parted { IsPartitionedBy (is_before (rank head)) blocks.now.packets }
+    ensures value { IsIndexAt (rank head) result blocks.now.packets }
+    ensures within { result ≤ length blocks.now.packets }
+    ensures cost { steps.new ≤ steps.old + halving_bound (length blocks.now.packets) }
 {
-    let mut at = packets.len();
-    for _ in 0..NEAR {
-        if !is_behind(packets, at, head) {
-            return at;
+    let (mut low, mut high) = (0, blocks.len());
+    let mut near = NEAR;
+    while low < high {
+        let mid = probe(low, high, near);
+        near = near.saturating_sub(1);
+        if is_before(blocks.packet_at(mid, steps).pos, head) {
+            low = mid + 1;
+        } else {
+            high = mid;
         }
-        at -= 1;
     }
-    packets.partition_point(|p| is_before(p.pos, head))
+    low
 }
 
 /// The first packet at or behind a place.
-pub(crate) fn first_at(packets: &VecDeque<Packet>, head: Pos) -> Option<&Packet>
-    requires parted { IsPartitionedBy (is_before (rank head)) packets.now.items }
-    ensures { option_copied result ≡ find (is_from (rank head)) packets.now.items }
+pub(crate) fn find_first<'a, L: Ledger>(
+    blocks: &'a Blocks,
+    head: Pos,
+    steps: &mut Steps<L>,
+) -> Option<&'a Packet>
+    requires parted { IsPartitionedBy (is_before (rank head)) blocks.now.packets }
+    ensures value { option_copied result ≡ find (is_from (rank head)) blocks.now.packets }
+    ensures cost { steps.new ≤ steps.old + bound (length blocks.now.packets) }
 {
-    get_at(packets, index_at(packets, head))
+    let at = index_at(blocks, head, steps);
+    if at < blocks.len() {
+        Some(blocks.packet_at(at, steps))
+    } else {
+        None
+    }
 }
 
-pub(crate) fn get_at(packets: &VecDeque<Packet>, at: usize) -> Option<&Packet>
-    ensures { option_copied result ≡ slice_get packets.now.items at }
+/// The same, with a count that begins here and is let go.
+pub(crate) fn first_at<L: Ledger>(blocks: &Blocks, head: Pos, blank: Blank) -> Option<&Packet>
+    requires parted { IsPartitionedBy (is_before (rank head)) blocks.now.packets }
+    requires name { blank.name ≡ L.name }
+    requires parts { blank.parts ≡ L.parts }
+    requires some { 0 < L.parts }
+    ensures { option_copied result ≡ find (is_from (rank head)) blocks.now.packets }
 {
-    packets.get(at)
-}
-
-/// The first packet.
-pub(crate) fn first(packets: &VecDeque<Packet>) -> Option<&Packet>
-    ensures { option_copied result ≡ first_of packets.now.items }
-{
-    packets.front()
-}
-
-/// The place of the first sync point behind the first packet.
-pub(crate) fn next_sync(packets: &VecDeque<Packet>) -> Option<Pos>
-    ensures { result ≡ first_that is_sync (drop 1 packets.now.items) }
-{
-    place_of(packets.iter().skip(1).find(|p| p.sync))
+    find_first(blocks, head, &mut Steps::<L>::new(blank))
 }
 
 pub(crate) fn place_or(end: Pos, place: Option<Pos>) -> Pos
@@ -80,82 +87,4 @@ pub(crate) fn place_or(end: Pos, place: Option<Pos>) -> Pos
         Some(place) => place,
         None => end,
     }
-}
-
-pub(crate) fn first_sync(packets: &VecDeque<Packet>) -> Option<Pos>
-    ensures { result ≡ first_that is_sync packets.now.items }
-{
-    place_of(packets.iter().find(|p| p.sync))
-}
-
-pub(crate) fn first_sync_from(packets: &VecDeque<Packet>, t: i64) -> Option<Pos>
-    ensures { result ≡ first_that (is_sync_from t) packets.now.items }
-{
-    place_of(packets.iter().find(|p| p.sync && t <= p.time))
-}
-
-#[tactic(auto, using(crate::proofs::FromBack::last_of_two))]
-pub(crate) fn last_sync(packets: &VecDeque<Packet>) -> Option<Pos>
-    ensures { result ≡ last_that is_sync packets.now.items }
-{
-    let (front, rest) = packets.as_slices();
-    match last_sync_in(rest) {
-        Some(place) => Some(place),
-        None => last_sync_in(front),
-    }
-}
-
-#[tactic(auto, using(crate::proofs::FromBack::found_last))]
-fn last_sync_in(packets: &[Packet]) -> Option<Pos>
-    ensures { result ≡ last_that is_sync packets.now }
-{
-    place_of(find_sync_back(packets))
-}
-
-fn find_sync_back(packets: &[Packet]) -> Option<&Packet>
-    ensures { option_copied result ≡ find is_sync (reverse packets.now) }
-{
-    packets.iter().rev().find(|p| p.sync)
-}
-
-#[tactic(auto, using(crate::proofs::FromBack::last_of_two))]
-pub(crate) fn last_sync_upto(packets: &VecDeque<Packet>, t: i64) -> Option<Pos>
-    ensures { result ≡ last_that (is_sync_upto t) packets.now.items }
-{
-    let (front, rest) = packets.as_slices();
-    match last_upto_in(rest, t) {
-        Some(place) => Some(place),
-        None => last_upto_in(front, t),
-    }
-}
-
-#[tactic(auto, using(crate::proofs::FromBack::found_last))]
-fn last_upto_in(packets: &[Packet], t: i64) -> Option<Pos>
-    ensures { result ≡ last_that (is_sync_upto t) packets.now }
-{
-    place_of(find_upto_back(packets, t))
-}
-
-fn find_upto_back(packets: &[Packet], t: i64) -> Option<&Packet>
-    ensures { option_copied result ≡ find (is_sync_upto t) (reverse packets.now) }
-{
-    packets.iter().rev().find(|p| p.sync && p.time <= t)
-}
-
-pub(crate) fn has_sync_from(packets: &VecDeque<Packet>, t: i64) -> bool
-    ensures { result ≡ list_any (is_sync_from t) packets.now.items }
-{
-    packets.iter().any(|p| p.sync && t <= p.time)
-}
-
-pub(crate) fn has_sync_before(packets: &VecDeque<Packet>, t: i64) -> bool
-    ensures { result ≡ list_any (is_sync_before t) packets.now.items }
-{
-    packets.iter().any(|p| p.sync && p.time < t)
-}
-
-fn place_of(packet: Option<&Packet>) -> Option<Pos>
-    ensures { result ≡ option_map (λ p. p.pos) (option_copied packet.entry) }
-{
-    Some(packet?.pos)
 }

@@ -1,7 +1,8 @@
 ghost use Rattle.std.specs.Prelude.{◌≡◌, ◌+◌, ◌<◌, ◌≤◌, ◌^◌, ◌++◌, [], drop, length, take};
 ghost use Rattle.std.specs.VecDeque.{deque_capacity, deque_len};
 ghost use Rattle.mc_journal.specs.Films.{rank};
-ghost use Rattle.mc_queue.specs.Places.{before, from_place, weights};
+ghost use Rattle.mc_queue.specs.Places.{before, outside, weight_outside, weights};
+ghost use Rattle.mc_queue.specs.Union.{joined};
 
 use crate::parts::{move_rear, weight_behind};
 use crate::place::{is_before, weight_of};
@@ -19,7 +20,7 @@ pub(crate) fn count_before(packets: &VecDeque<Packet>, cut: Pos) -> usize
 #[tactic(auto, using(crate::proofs::Rising::few_before, crate::proofs::Rising::both_counts, crate::proofs::Rising::fewer_before))]
 pub(crate) fn count_outside(packets: &VecDeque<Packet>, from: Pos, to: Pos) -> usize
     requires order { rank from ≤ rank to }
-    ensures { result ≡ length (before (rank from) packets.now.items) + length (from_place (rank to) packets.now.items) }
+    ensures { result ≡ outside (rank from) (rank to) packets.now.items }
 {
     count_before(packets, from) + (packets.len() - count_before(packets, to))
 }
@@ -29,7 +30,7 @@ pub(crate) fn count_outside(packets: &VecDeque<Packet>, from: Pos, to: Pos) -> u
 pub(crate) fn weight_outside(packets: &VecDeque<Packet>, from: Pos, to: Pos) -> u64
     requires order { rank from ≤ rank to }
     requires fits { weights packets.now.items < 2 ^ 64 }
-    ensures { result ≡ weights (before (rank from) packets.now.items) + weights (from_place (rank to) packets.now.items) }
+    ensures { result ≡ weight_outside (rank from) (rank to) packets.now.items }
 {
     weight_ahead(packets, from) + weight_behind(packets, to)
 }
@@ -62,11 +63,15 @@ fn weight_before(packets: &[Packet], cut: Pos) -> u64
 #[tactic(auto, using(crate::proofs::Rising::few_before, crate::proofs::Rising::both_counts, crate::proofs::Rising::fewer_before))]
 pub(crate) fn merge(queue: &mut VecDeque<Packet>, other: &mut VecDeque<Packet>, from: Pos, to: Pos)
     requires order { rank from ≤ rank to }
-    requires room { deque_len queue.old + (length (before (rank from) other.old.items) + length (from_place (rank to) other.old.items)) ≤ deque_capacity queue.old }
-    ensures items { queue.new.items ≡ take (length (before (rank from) other.old.items)) other.old.items ++ (queue.old.items ++ drop (length (before (rank to) other.old.items)) other.old.items) }
+    requires room { deque_len queue.old + outside (rank from) (rank to) other.old.items
+        ≤ deque_capacity queue.old }
+    ensures items { queue.new.items
+        ≡ joined (rank from) (rank to) queue.old.items other.old.items }
     ensures none_left { other.new.items ≡ [] }
-    ensures len { deque_len queue.new ≡ deque_len queue.old + (length (before (rank from) other.old.items) + length (from_place (rank to) other.old.items)) }
+    ensures len { deque_len queue.new
+        ≡ deque_len queue.old + outside (rank from) (rank to) other.old.items }
     ensures capacity { deque_capacity queue.new ≡ deque_capacity queue.old }
+    ensures other_capacity { deque_capacity other.new ≡ deque_capacity other.old }
 {
     let front = count_before(other, from);
     let rear = count_before(other, to);
@@ -78,11 +83,14 @@ pub(crate) fn merge(queue: &mut VecDeque<Packet>, other: &mut VecDeque<Packet>, 
 fn splice(queue: &mut VecDeque<Packet>, other: &mut VecDeque<Packet>, front: usize, rear: usize)
     requires order { front ≤ rear }
     requires some { rear ≤ deque_len other.old }
-    requires room { deque_len queue.old + front + deque_len other.old ≤ deque_capacity queue.old + rear }
-    ensures items { queue.new.items ≡ take front other.old.items ++ (queue.old.items ++ drop rear other.old.items) }
+    requires room { deque_len queue.old + front + deque_len other.old
+        ≤ deque_capacity queue.old + rear }
+    ensures items { queue.new.items
+        ≡ take front other.old.items ++ (queue.old.items ++ drop rear other.old.items) }
     ensures none_left { other.new.items ≡ [] }
     ensures len { deque_len queue.new + rear ≡ deque_len queue.old + front + deque_len other.old }
     ensures capacity { deque_capacity queue.new ≡ deque_capacity queue.old }
+    ensures other_capacity { deque_capacity other.new ≡ deque_capacity other.old }
 {
     let more = other.len() - rear;
     move_rear(other, rear, queue);

@@ -1,10 +1,10 @@
-ghost use Rattle.std.specs.Prelude.{◌≡◌, ◌+◌, ◌-◌, ◌<◌, ◌≤◌, ◌^◌, ◌++◌, [], drop, length, take, OnErr, OnOk};
+ghost use Rattle.std.specs.Prelude.{◌≡◌, ◌+◌, ◌<◌, ◌≤◌, ◌^◌, ◌++◌, drop, length, take};
 ghost use Rattle.std.specs.VecDeque.{deque_capacity, deque_len};
 ghost use Rattle.mc_journal.specs.Films.{rank};
-ghost use Rattle.mc_queue.specs.Places.{before, DropsFirst, behind, from_place, weights};
+ghost use Rattle.mc_queue.specs.Places.{from_place, weights};
 
 use crate::place::{is_before, weight_of};
-use mc_packet::{NoMemory, Packet, Packets, Pos};
+use mc_packet::{Packet, Packets, Pos};
 use std::collections::VecDeque;
 
 /// The weight of the packets at or behind a place.
@@ -56,68 +56,16 @@ pub(crate) fn pour(mut packets: Packets, into: &mut VecDeque<Packet>)
     }
 }
 
-/// Drops the first packet if it stands before the place, and gives its weight.
-pub(crate) fn drop_first(packets: &mut VecDeque<Packet>, cut: Pos) -> Option<u64>
-    ensures value { DropsFirst (rank cut) packets.old.items packets.new.items result }
-    ensures len { deque_len packets.new ≤ deque_len packets.old }
-    ensures capacity { deque_capacity packets.new ≡ deque_capacity packets.old }
-{
-    let first = packets.front()?;
-    if !is_before(first.pos, cut) {
-        return None;
-    }
-    let weight = weight_of(first);
-    packets.pop_front();
-    Some(weight)
-}
-
-/// Drops the packets in front that stand before a place, and gives their weight.
-pub(crate) fn drop_before(packets: &mut VecDeque<Packet>, cut: Pos) -> u64
-    requires fits { weights packets.old.items < 2 ^ 64 }
-    ensures items { packets.new.items ≡ behind (rank cut) packets.old.items }
-    ensures weight { result + weights packets.new.items ≡ weights packets.old.items }
-    ensures len { deque_len packets.new ≤ deque_len packets.old }
-    ensures capacity { deque_capacity packets.new ≡ deque_capacity packets.old }
-{
-    let mut dropped = 0;
-    while let Some(weight) = drop_first(packets, cut) {
-        dropped += weight;
-    }
-    dropped
-}
-
-/// Puts packets behind others. `NoMemory` comes only where there was no room for them, and nothing
-/// is then changed.
-pub(crate) fn add_behind(queue: &mut VecDeque<Packet>, packets: Packets) -> Result<(), NoMemory>
-    ensures ok { OnOk result (queue.new.items ≡ queue.old.items ++ packets) }
-    ensures len { OnOk result (deque_len queue.new ≡ deque_len queue.old + length packets) }
-    ensures capacity { OnOk result (deque_capacity queue.old ≤ deque_capacity queue.new) }
-    ensures err { OnErr result (queue.new.items ≡ queue.old.items) }
-    ensures err_len { OnErr result ((deque_len queue.new ≡ deque_len queue.old) × (deque_capacity queue.new ≡ deque_capacity queue.old)) }
-    ensures full { OnErr result (deque_capacity queue.old < deque_len queue.old + length packets) }
+/// Puts packets behind others, into the room that there is.
+pub(crate) fn add_behind(queue: &mut VecDeque<Packet>, packets: Packets)
+    requires room { deque_len queue.old + length packets ≤ deque_capacity queue.old }
+    ensures items { queue.new.items ≡ queue.old.items ++ packets }
+    ensures len { deque_len queue.new ≡ deque_len queue.old + length packets }
+    ensures capacity { deque_capacity queue.new ≡ deque_capacity queue.old }
 {
     let more = packets.len();
-    make_room(queue, more)?;
     pour(packets, queue);
     queue.rotate_left(more);
-    Ok(())
-}
-
-/// Makes room for so many more packets, and at least for as many again as there are where there is
-/// too little, so that a queue that grows step by step is seldom moved.
-pub(crate) fn make_room(queue: &mut VecDeque<Packet>, more: usize) -> Result<(), NoMemory>
-    ensures items { queue.new.items ≡ queue.old.items }
-    ensures len { deque_len queue.new ≡ deque_len queue.old }
-    ensures capacity { deque_capacity queue.old ≤ deque_capacity queue.new }
-    ensures ok { OnOk result (deque_len queue.new + more ≤ deque_capacity queue.new) }
-    ensures full { OnErr result (deque_capacity queue.old < deque_len queue.old + more) }
-    ensures err { OnErr result (deque_capacity queue.new ≡ deque_capacity queue.old) }
-{
-    let len = queue.len();
-    if more <= queue.capacity() - len {
-        return Ok(());
-    }
-    queue.reserve_exact(if more < len { len } else { more })
 }
 
 #[tactic(auto, using(crate::proofs::Moving::moved))]
@@ -131,6 +79,7 @@ pub(crate) fn move_rear(from: &mut VecDeque<Packet>, keep: usize, into: &mut Vec
     ensures len { deque_len into.new + keep ≡ deque_len from.old + deque_len into.old }
     ensures left_len { deque_len from.new ≡ keep }
     ensures capacity { deque_capacity into.new ≡ deque_capacity into.old }
+    ensures left_capacity { deque_capacity from.new ≡ deque_capacity from.old }
 {
     while keep < from.len() {
         if let Some(packet) = from.pop_back() {

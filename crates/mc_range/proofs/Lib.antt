@@ -20,3 +20,4 @@ pub mod Extremes
 pub mod Weighed
 pub mod FilmCut
 pub mod Spared
+pub mod Shown

@@ -1,5 +1,5 @@
 -- Which seeks a range serves, and from where its tracks are then read: the rule over a film's list, by what the queues hold.
-use Rattle.std.specs.Prelude.{◌≡◌, ℕ, ◌==◌, nat_le, Bool, ◌&&◌, if◌then◌else◌, List, [], map, Option, Some, None, ℤ, is_some, IfSome, IsSomeAnd}
+use Rattle.std.specs.Prelude.{◌≡◌, ℕ, ◌==◌, nat_le, Bool, ◌&&◌, ◌||◌, int_le, if◌then◌else◌, List, [], map, Option, Some, None, ℤ, is_some, IfSome, IsSomeAnd}
 use Rattle.std.specs.List.{filter, find}
 use Rattle.mc_packet.specs.declared.packet.Packet.{Packet}
 use Rattle.mc_packet.specs.declared.packet.Pos.{Pos}
@@ -47,6 +47,16 @@ serves_by spans ended syncs set dir t =
     passes set.video (serves_track spans ended syncs dir t)
     && (passes set.audio (serves_track spans ended syncs (audio_dir set.video dir) (time_or t (video_sync syncs set dir t)))
     && passes set.sub (serves_sub spans set (sub_block syncs set dir t)))
+
+-- the same of one queue by the sync point that it has for the seek: whether nothing lies before it, whether the ending is
+-- there, and whether another sync point at or behind the time, or below it, is there
+abbrev pub back_by : Bool → Bool → Bool → ℤ → Option Told → Bool
+back_by begins ended ahead t None = begins && ended
+back_by begins ended ahead t (Some p) = if int_le p.time t then ahead || ended else begins
+
+abbrev pub forward_by : Bool → Bool → Bool → ℤ → Option Told → Bool
+forward_by begins ended below t None = ended && begins
+forward_by begins ended below t (Some p) = if int_le t p.time then int_le p.time t || (below || begins) else ended
 
 -- ---- the heads
 

@@ -33,9 +33,15 @@ use std::marker::Model;
 /// known, the mark from which it is read on, and the film's ending where that was reached.
 #[derive(Drop)]
 pub struct Range {
+    // Written by `new` alone.
     alloc: Global,
+    // The selected tracks, written anew by `retrack`.
     set: Choice,
+    // What is held: `extend` feeds it, `cut` drops from it, `join` takes another's in, and `retrack`
+    // and `add_track` change which tracks have a queue.
     queues: Queues,
+    // From where the film is read on, and how it ends where that is known: written by `extend` and
+    // `join`, and by `add_track` where a track begins before the mark.
     mark: Mark,
     ending: Option<Ending>,
 }

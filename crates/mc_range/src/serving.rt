@@ -3,11 +3,11 @@ ghost use Rattle.std.specs.Option.{option_copied, option_map};
 ghost use Rattle.mc_journal.specs.Told.{told};
 ghost use Rattle.mc_journal.specs.Choices.{lead_of, passes};
 ghost use Rattle.mc_journal.specs.Films.{audio_dir, audio_sync, block_of, first, first_from, first_lane, last, last_upto, least_of, rank, sync_for, time_or, track_sync, video_sync};
-ghost use Rattle.mc_journal.specs.Ranges.{any_below, any_from, served, served_back, served_forward};
+ghost use Rattle.mc_journal.specs.Ranges.{any_below, any_from, served};
 ghost use Rattle.mc_queue.specs.Queue.{IsQueue};
 ghost use Rattle.mc_packet.specs.declared.choice.Dir.TheVariants.{Back, Forward};
 ghost use Rattle.mc_range.specs.Range.{spans_of};
-ghost use Rattle.mc_range.specs.Serving.{at_place, head_at, heads_in, serves_sub, serves_track, syncs_of, told_syncs};
+ghost use Rattle.mc_range.specs.Serving.{at_place, back_by, forward_by, head_at, heads_in, serves_sub, serves_track, syncs_of, told_syncs};
 
 use crate::place::{first_lane, is_start, place_at};
 use crate::queues::{Queues, find};
@@ -71,24 +71,6 @@ fn any_below(queue: &Queue, t: i64) -> bool
     queue.has_sync_before(t)
 }
 
-fn has_first(queue: &Queue) -> bool
-    ensures { result ≡ is_some (first (told_syncs queue.now.packets)) }
-{
-    match first(queue) {
-        Some(_) => true,
-        None => false,
-    }
-}
-
-fn has_last(queue: &Queue) -> bool
-    ensures { result ≡ is_some (last (told_syncs queue.now.packets)) }
-{
-    match last(queue) {
-        Some(_) => true,
-        None => false,
-    }
-}
-
 fn begins(queue: &Queue) -> bool
     ensures { result ≡ (rank queue.now.from == 0) }
 {
@@ -125,45 +107,69 @@ fn sync_for(queue: &Queue, dir: Dir, t: i64) -> Option<&Packet>
     }
 }
 
-fn served_back(queue: &Queue, ended: bool, t: i64) -> bool
-    ensures { result ≡ served_back (rank queue.now.from) ended t (told_syncs queue.now.packets) }
+/// Whether the queue shows that the sync point that it has for a seek back to `t`, if it has one, is
+/// the film's: one at or behind `t` is there too, or the ending; and where it lies past `t`, nothing
+/// lies before the queue.
+fn served_back(queue: &Queue, ended: bool, t: i64, sync: Option<&Packet>) -> bool
+    ensures { result ≡ back_by (rank queue.now.from == 0) ended (any_from t (told_syncs queue.now.packets)) t (option_map told (option_copied sync.entry)) }
 {
-    match last_upto(queue, t) {
-        Some(_) => any_from(queue, t) || ended,
-        None => begins(queue) && (has_first(queue) || ended),
+    match sync {
+        Some(packet) => if packet.time <= t {
+            any_from(queue, t) || ended
+        } else {
+            begins(queue)
+        },
+        None => begins(queue) && ended,
     }
 }
 
-fn served_forward(queue: &Queue, ended: bool, t: i64) -> bool
-    ensures { result ≡ served_forward (rank queue.now.from) ended t (told_syncs queue.now.packets) }
+/// The same of a seek forward: it stands at `t`, or one below `t` is there too, or nothing lies
+/// before the queue; and where it lies before `t`, the ending is there.
+fn served_forward(queue: &Queue, ended: bool, t: i64, sync: Option<&Packet>) -> bool
+    ensures { result ≡ forward_by (rank queue.now.from == 0) ended (any_below t (told_syncs queue.now.packets)) t (option_map told (option_copied sync.entry)) }
 {
-    match first_from(queue, t) {
-        Some(packet) => packet.time <= t || any_below(queue, t) || begins(queue),
-        None => ended && (has_last(queue) || begins(queue)),
+    match sync {
+        Some(packet) => if t <= packet.time {
+            packet.time <= t || any_below(queue, t) || begins(queue)
+        } else {
+            ended
+        },
+        None => ended && begins(queue),
     }
 }
 
 /// Whether the queue shows that no other sync point of the film is the one that a seek to `t` asks
-/// for.
-fn served(queue: &Queue, dir: Dir, ended: bool, t: i64) -> bool
+/// for, where that is the one it has for it.
+#[tactic(auto, using(crate::proofs::Shown::back_is, crate::proofs::Shown::forward_is))]
+fn served(queue: &Queue, dir: Dir, ended: bool, t: i64, sync: Option<&Packet>) -> bool
+    requires { option_map told (option_copied sync) ≡ sync_for dir t (told_syncs queue.now.packets) }
     ensures { result ≡ served dir (rank queue.now.from) ended t (told_syncs queue.now.packets) }
 {
     match dir {
-        Dir::Back => served_back(queue, ended, t),
-        Dir::Forward => served_forward(queue, ended, t),
+        Dir::Back => served_back(queue, ended, t, sync),
+        Dir::Forward => served_forward(queue, ended, t, sync),
     }
 }
 
 // ---- what the queues of a range serve
 
-fn serves_track(queues: &Queues, ended: bool, dir: Dir, t: i64, track: Option<TrackNo>) -> bool
+/// Whether the queues serve a track, with the sync point that they have for it.
+fn serves_track(
+    queues: &Queues,
+    ended: bool,
+    dir: Dir,
+    t: i64,
+    track: Option<TrackNo>,
+    sync: Option<&Packet>,
+) -> bool
+    requires { option_map told (option_copied sync) ≡ track_sync (syncs_of queues.now) dir t track }
     ensures { result ≡ passes track (serves_track (spans_of queues.now) ended (syncs_of queues.now) dir t) }
 {
     let Some(track) = track else {
         return true;
     };
     match find(queues, track) {
-        Some(queue) => served(queue, dir, ended, t),
+        Some(queue) => served(queue, dir, ended, t, sync),
         None => false,
     }
 }
@@ -266,8 +272,8 @@ pub(crate) fn serve(queues: &Queues, ended: bool, set: Choice, t: i64, dir: Dir)
     let time = time_or(t, video);
     let audio = track_sync(queues, ahead, time, set.audio);
     let start = least_of(set.video, set.audio, block_of(video), block_of(audio));
-    let is_served = serves_track(queues, ended, dir, t, set.video)
-        && serves_track(queues, ended, ahead, time, set.audio)
+    let is_served = serves_track(queues, ended, dir, t, set.video, video)
+        && serves_track(queues, ended, ahead, time, set.audio, audio)
         && serves_sub(queues, set, start);
     if is_served {
         Some(Heads {

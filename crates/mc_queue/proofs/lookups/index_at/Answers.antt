@@ -1,15 +1,42 @@
-use Rattle.std.proofs.Common.{rules, of_calls, ◌∙◌, sym}
-use Rattle.std.proofs.lemmas.List.Sorted.{IsPartitionPoint-from_clause}
+use Rattle.std.proofs.Common.{arith, rules, ◌≡◌, ◌+◌, ◌-◌, ◌<◌, sym, ◌∙◌}
 use Rattle.mc_journal.specs.Films.{rank}
-use Rattle.mc_queue.specs.Places.{is_before}
-use Rattle.mc_queue.proofs.Halving.{is_index, one_back}
+use Rattle.mc_queue.proofs.Halving.{low_on, high_on, cost_step}
 use Rattle.mc_queue.proofs.lookups.index_at.Goals as goal
 
-pub returns-then-not-is_behind : goal.returns-then-not-is_behind
-returns-then-not-is_behind c = is_index _ _ _ c.requires.parted c.loop.invariant.0 c.loop.invariant.1 (sym c.is_behind.ensures ∙ c.if-not-is_behind.true)
+pub loop-low-preserved-then-is_before : goal.loop-low-preserved-then-is_before
+loop-low-preserved-then-is_before g c =
+    let i = c.loop-low.invariant in
+    let t : c.loop-low.low < c.loop-low.high = search rules in
+    let w = i.within in
+    let a = c.probe-mid.ensures.within.0 in
+    let b = c.probe-mid.ensures.within.1 in
+    let k = i.cost in
+    let s = c.packet_at.ensures.cost in
+    let n : c.saturating_sub-near.result ≡ c.loop-low.near - 1 = search rules in
+    let o = cost_step (c.loop-low.high - c.loop-low.low) (c.loop-low.high - (c.probe-mid.result + 1)) c.loop-low.near c.saturating_sub-near.result (omega arith) (λ z. let h = c.probe-mid.ensures.half z in omega arith) n in
+    record {
+      order = omega arith;
+      within = i.within;
+      below = low_on (rank c.args.head) c.probe-mid.result c.packet_at.result.now c.args.blocks.now.packets c.requires.parted (omega arith) c.packet_at.ensures.value (sym c.is_before.ensures ∙ c.if-is_before.true);
+      above = i.above;
+      cost = omega arith;
+    }
 
-pub loop-preserved : goal.loop-preserved
-loop-preserved c = let b = one_back _ _ _ c.loop.invariant.0 c.loop.invariant.1 (sym c.is_behind.ensures ∙ c.if-not-is_behind.false) in search rules
-
-pub returns : goal.returns
-returns c = IsPartitionPoint-from_clause (is_before (rank c.args.head)) c.args.packets.now.items c.partition_point.result c.partition_point.ensures.partitioned c.requires.parted (λ a r f k. search (rules, of_calls))
+pub loop-low-preserved : goal.loop-low-preserved
+loop-low-preserved g c =
+    let i = c.loop-low.invariant in
+    let t : c.loop-low.low < c.loop-low.high = search rules in
+    let w = i.within in
+    let a = c.probe-mid.ensures.within.0 in
+    let b = c.probe-mid.ensures.within.1 in
+    let k = i.cost in
+    let s = c.packet_at.ensures.cost in
+    let n : c.saturating_sub-near.result ≡ c.loop-low.near - 1 = search rules in
+    let o = cost_step (c.loop-low.high - c.loop-low.low) (c.probe-mid.result - c.loop-low.low) c.loop-low.near c.saturating_sub-near.result (omega arith) (λ z. let h = c.probe-mid.ensures.half z in omega arith) n in
+    record {
+      order = omega arith;
+      within = omega arith;
+      below = i.below;
+      above = high_on (rank c.args.head) c.probe-mid.result c.packet_at.result.now c.args.blocks.now.packets c.requires.parted (omega arith) c.packet_at.ensures.value (sym c.is_before.ensures ∙ c.if-is_before.false);
+      cost = omega arith;
+    }

@@ -8,6 +8,7 @@ invariant-loop-from l = record {
   long : l.keep ≤ deque_len l.from;
   total : deque_len l.from + deque_len l.into ≡ deque_len l.fn.from + deque_len l.fn.into;
   room : deque_capacity l.into ≡ deque_capacity l.fn.into;
+  left_room : deque_capacity l.from ≡ deque_capacity l.fn.from;
 }
 
 abbrev pub decreases-loop-from : goal.decreases-loop-from

@@ -1,10 +1,9 @@
-use Rattle.std.proofs.Common.{◌<◌, length, rules, ap, ◌∙◌}
-use Rattle.mc_queue.specs.Times.{nearer_of}
-use Rattle.mc_queue.proofs.Timing.{one_more}
+use Rattle.std.proofs.Common.{rules, ◌≤◌, false, length}
+use Rattle.mc_queue.specs.Times.{is_wanted}
+use Rattle.mc_queue.proofs.Nearest.{nearest_of_all}
 use Rattle.mc_queue.proofs.times.nearest.Goals as goal
 
-pub loop-i-preserved : goal.loop-i-preserved
-loop-i-preserved c =
-    let l : c.loop-i.i < length c.args.packets.now.items = search rules in
-    let e = c.nearer_of-best.ensures ∙ ap (λ p. nearer_of c.args.dir c.args.any c.args.past c.loop-i.best p) c.get_at.ensures in
-    rw e (one_more c.args.dir c.args.any c.args.past c.loop-i.best c.args.packets.now.items c.loop-i.i l c.loop-i.invariant)
+pub returns : goal.returns
+returns g c =
+    let l : length c.args.blocks.now.blocks ≤ c.loop-at.at = search rules in
+    nearest_of_all c.args.dir (is_wanted c.args.dir false c.args.past) c.args.blocks.now.blocks c.args.blocks.now.packets c.loop-at.at c.loop-at.best c.count-at-end.ensures.blocks.all l c.loop-at.invariant

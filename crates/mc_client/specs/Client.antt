@@ -1,5 +1,6 @@
--- A client as contracts see it, and what each call answers and leaves; a poll's answer stands in `Polls`.
-use Rattle.std.specs.Prelude.{ℕ, ◌≤◌, Bool, true, false, if◌then◌else◌, ◌==◌, ◌||◌, nat_eq, List, [], ◌∷◌, ◌++◌, length, map}
+-- A client as contracts see it, and what each call answers and leaves; a poll's answer stands in
+-- `Polls` and `Seen`.
+use Rattle.std.specs.Prelude.{◌≡◌, ℕ, ◌≤◌, Bool, true, false, not, if◌then◌else◌, ◌==◌, ◌||◌, nat_eq, List, [], ◌∷◌, ◌++◌, length, map}
 use Rattle.std.specs.List.{list_any}
 use Rattle.indexmap.specs.IndexSet.{insert_key, remove_key}
 use Rattle.mc_ring.specs.Event.{event_number}
@@ -14,7 +15,8 @@ use Rattle.mc_client.specs.declared.watch.Watch.{Watch}
 use Rattle.mc_client.specs.declared.refusal.Pushed.{Pushed}
 use Rattle.mc_client.specs.declared.refusal.Pushed.TheVariants.{Kept, Dropped, Off}
 
--- its name, its ring of events, its observers in order of observing, and the numbers of the events that it switched off, in that order
+-- its name, its ring of events, its observers in order of observing, and the numbers of the events
+-- that it switched off, in that order
 pub record ClientState : Type 0 where
   pub name : List ℕ
   pub ring : RingState
@@ -62,12 +64,20 @@ abbrev pub after_switch : ClientState → ℕ → Bool → ClientState
 after_switch s n true = with_off s (remove_key (nat_eq n) s.off)
 after_switch s n false = with_off s (insert_key nat_eq s.off n)
 
+-- the events of a number are switched off
+abbrev pub has_off : ClientState → ℕ → Bool
+has_off s n = list_any (nat_eq n) s.off
+
+-- after a call that switches the events of a number, each number is as its last such call has it
+abbrev pub Switches : ClientState → ClientState → ℕ → Bool → Type 0
+Switches s s' n on = (m : ℕ) → has_off s' m ≡ (if n == m then not on else has_off s m)
+
 -- the observers whose properties depend on a mask's fields are flagged
 abbrev pub after_flag : ClientState → List PropEntry → ℕ → ClientState
 after_flag s entries mask = with_watches s (map (flagged_for entries mask) s.watches)
 
 abbrev pub is_off : ClientState → Event → Bool
-is_off s e = list_any (nat_eq (event_number e)) s.off
+is_off s e = has_off s (event_number e)
 
 -- what became of a pushed event, as the ring tells it
 abbrev pub as_pushed : RingPushed → Pushed

@@ -1,4 +1,5 @@
--- The law over every list of calls of a client: each call is at most one call of its ring, of which the ring's law holds.
+-- The law over every list of calls of a client: each call is at most one call of its ring, of which
+-- the ring's law holds.
 use Rattle.std.specs.Prelude.{◌≡◌, ℕ, ◌<◌, true, IsTrue, List, [], ◌∷◌, ◌++◌, length, filter, All, Some, Result, Ok, Err}
 use Rattle.mc_ring.specs.Event.{enters_ring}
 use Rattle.mc_ring.specs.Ring.{reserve_answer}
@@ -25,20 +26,24 @@ use Rattle.mc_client.specs.declared.calls.ClientAnswer.TheVariants as answer
 
 -- One call
 
--- the conditions on a client's ring: a place to be given back or used up is set aside, and what is pushed is an event that rings hold, or a reply
+-- the conditions on a client's ring: a place to be given back or used up is set aside, and what is
+-- pushed is an event that rings hold, or a reply
 abbrev pub FitsRing : ClientState → ClientCall → Type 0
 FitsRing s call.Unreserve = 0 < s.ring.reserved
 FitsRing s (call.Push e) = IsTrue (enters_ring e)
 FitsRing s (call.Reply e) = (0 < s.ring.reserved) × IsTrue (is_reply e)
 FitsRing s c = Unit {0}
 
--- the conditions on its observers: a flagged client knows the table, and a polled one is fresh for the facts
-abbrev pub FitsTable : (ℕ → Facts → Reading) → List PropEntry → Facts → ClientState → ClientCall → Type 0
+-- the conditions on its observers: a flagged client knows the table, and a polled one is fresh for
+-- the facts
+abbrev pub FitsTable : (ℕ → Facts → Reading) → List PropEntry → Facts → ClientState → ClientCall
+    → Type 0
 FitsTable stated entries facts s (call.Flag mask) = All (IsPlaced entries) s.watches
 FitsTable stated entries facts s call.Poll = Fresh stated entries facts s.watches
 FitsTable stated entries facts s c = Unit {0}
 
-abbrev pub IsAllowed : (ℕ → Facts → Reading) → List PropEntry → Facts → ClientState → ClientCall → Type 0
+abbrev pub IsAllowed : (ℕ → Facts → Reading) → List PropEntry → Facts → ClientState → ClientCall
+    → Type 0
 IsAllowed stated entries facts s c = FitsRing s c × FitsTable stated entries facts s c
 
 abbrev pub requested : Result Unit QueueFull → ClientAnswer
@@ -60,15 +65,21 @@ PollStep now s (answer.Event e) s' = Polled now s e s'
 PollStep now s answer.NoMemory s' = s' ≡ s
 PollStep now s a s' = ⊥
 
--- a call with its answer, the client before it and the client after it, at a table of these entries where observers have these values
-abbrev pub IsStep : List PropEntry → (Watch → Shown) → ClientState → ClientCall → ClientAnswer → ClientState → Type 0
-IsStep entries now s call.Request a s' = (a ≡ requested (reserve_answer s.ring)) × (s' ≡ after_request s)
+-- a call with its answer, the client before it and the client after it, at a table of these entries
+-- where observers have these values
+abbrev pub IsStep : List PropEntry → (Watch → Shown) → ClientState → ClientCall → ClientAnswer
+    → ClientState → Type 0
+IsStep entries now s call.Request a s' =
+    (a ≡ requested (reserve_answer s.ring)) × (s' ≡ after_request s)
 IsStep entries now s call.Unreserve a s' = (a ≡ answer.Done) × (s' ≡ after_return s)
-IsStep entries now s (call.Push e) a s' = (a ≡ answer.Pushed (push_answer_of s e)) × (s' ≡ after_push_of s e)
+IsStep entries now s (call.Push e) a s' =
+    (a ≡ answer.Pushed (push_answer_of s e)) × (s' ≡ after_push_of s e)
 IsStep entries now s (call.Reply e) a s' = (a ≡ answer.Done) × (s' ≡ after_reply_of s e)
 IsStep entries now s (call.Switch n on) a s' = Changes s (after_switch s n on) a s'
-IsStep entries now s (call.Observe id name format entry) a s' = Changes s (after_observe s (new_watch id name format entry)) a s'
-IsStep entries now s (call.Unobserve id) a s' = (a ≡ answer.Removed (length (filter (has_id id) s.watches))) × (s' ≡ after_unobserve s id)
+IsStep entries now s (call.Observe id name format entry) a s' =
+    Changes s (after_observe s (new_watch id name format entry)) a s'
+IsStep entries now s (call.Unobserve id) a s' =
+    (a ≡ answer.Removed (length (filter (has_id id) s.watches))) × (s' ≡ after_unobserve s id)
 IsStep entries now s (call.Flag mask) a s' = (a ≡ answer.Done) × (s' ≡ after_flag s entries mask)
 IsStep entries now s call.Poll a s' = PollStep now s a s'
 
@@ -81,13 +92,16 @@ Told = ClientCall × ClientAnswer × ClientState
 -- each call was allowed where it was made, and is a step there, at some table and facts
 abbrev pub Runs : ClientState → List Told → Type 0
 Runs s [] = Unit {0}
-Runs s (t ∷ ts) = FitsRing s t.0 × ((entries : List PropEntry) × (now : Watch → Shown) × IsStep entries now s t.0 t.1 t.2) × Runs t.2 ts
+Runs s (t ∷ ts) = FitsRing s t.0
+    × ((entries : List PropEntry) × (now : Watch → Shown) × IsStep entries now s t.0 t.1 t.2)
+    × Runs t.2 ts
 
 abbrev pub left_by : ClientState → List Told → ClientState
 left_by s [] = s
 left_by s (t ∷ ts) = left_by t.2 ts
 
--- what a poll's event was to the ring: an overflow that was told, or its oldest event; no event and a change were none of the ring's
+-- what a poll's event was to the ring: an overflow that was told, or its oldest event; no event and
+-- a change were none of the ring's
 abbrev pub ring_polled : Event → List RingTold
 ring_polled event.None = []
 ring_polled (event.Change id name format value) = []
@@ -97,7 +111,8 @@ ring_polled e = (ring.Pop, told.Popped (Some e)) ∷ []
 -- what a pushed event was to the ring: one that is switched off was nothing to it
 abbrev pub ring_pushed : Event → ClientAnswer → List RingTold
 ring_pushed e (answer.Pushed pushed.Kept) = (ring.PushEvent e, told.PushedEvent fate.Kept) ∷ []
-ring_pushed e (answer.Pushed (pushed.Dropped d)) = (ring.PushEvent e, told.PushedEvent (fate.Dropped d)) ∷ []
+ring_pushed e (answer.Pushed (pushed.Dropped d)) =
+    (ring.PushEvent e, told.PushedEvent (fate.Dropped d)) ∷ []
 ring_pushed e a = []
 
 abbrev pub ring_requested : ClientAnswer → List RingTold
@@ -122,6 +137,7 @@ abbrev pub ring_calls : List Told → List RingTold
 ring_calls [] = []
 ring_calls (t ∷ ts) = ring_call t.0 t.1 ++ ring_calls ts
 
--- every list of allowed calls keeps the law of its ring: events leave in the order in which they were kept, and an accepted reply is polled or still held
+-- every list of allowed calls keeps the law of its ring: events leave in the order in which they
+-- were kept, and an accepted reply is polled or still held
 abbrev pub KeepsLaw : ℕ → ClientState → Type 0
 KeepsLaw size s = (ts : List Told) → Runs s ts → IsLawful size (ring_calls ts) (left_by s ts).ring

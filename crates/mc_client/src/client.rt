@@ -1,18 +1,12 @@
-ghost use Rattle.std.specs.Prelude.{◌≡◌, ◌<◌, ◌≤◌, ◌⊎◌, ◌↔◌, ◌+◌, ◌++◌, ◌∷◌, [], ℕ, List, Bool, true, false, length, filter, Err, IsTrue, IsOk, IfOk, OnOk, OnErr, All};
+ghost use Rattle.std.specs.Prelude.{◌≡◌, ◌<◌, ◌≤◌, ◌⊎◌, ◌↔◌, true, false, length, filter, Err, IsTrue, IsOk, IfOk, OnOk, OnErr, All};
 ghost use Rattle.mc_ring.specs.Event.{enters_ring};
-ghost use Rattle.mc_ring.specs.Ring.{reserve_answer};
-ghost use Rattle.mc_ring.specs.declared.event.Event.{Event};
-ghost use Rattle.mc_ring.specs.declared.event.Event.TheVariants.{None as Nothing};
+ghost use Rattle.mc_ring.specs.Ring.{is_full, reserve_answer};
 ghost use Rattle.mc_ring.specs.declared.ring.RingError.TheVariants.{BadSize};
-ghost use Rattle.mc_props.specs.Entries.{place_of, property_part};
-ghost use Rattle.mc_props.specs.Fields.{AgreeOutside};
-ghost use Rattle.mc_props.specs.declared.entries.PropEntry.{PropEntry};
-ghost use Rattle.mc_props.specs.declared.facts.Facts.{Facts};
-ghost use Rattle.mc_props.specs.declared.reading.Reading.{Reading};
-ghost use Rattle.mc_client.specs.Client.{ClientState, after_flag, after_observe, after_push_of, after_reply_of, after_request, after_return, after_switch, after_unobserve, can_switch, is_reply, new_client, push_answer_of};
+ghost use Rattle.mc_client.specs.Client.{IsClient, Switches, after_flag, after_observe, after_push_of, after_reply_of, after_request, after_return, after_switch, after_unobserve, can_switch, has_off, is_reply, new_client, push_answer_of};
 ghost use Rattle.mc_client.specs.Law.{KeepsLaw};
-ghost use Rattle.mc_client.specs.Polls.{Polled, WouldPoll};
-ghost use Rattle.mc_client.specs.Watches.{Fresh, IsPlaced, IsSettled, has_id, new_watch, present};
+ghost use Rattle.mc_client.specs.Polls.{IsQuietAt, IsSolePoll, Polled, WouldPoll};
+ghost use Rattle.mc_client.specs.Seen.{now_of, poll_of, seen_after, seen_by};
+ghost use Rattle.mc_client.specs.Watches.{Fresh, IsPlaced, KeepsFresh, KeepsFreshAt, Refreshes, has_id, new_watch, present};
 ghost use Rattle.mc_client.specs.declared.refusal.ClientError.TheVariants.{InvalidParameter};
 
 use crate::refusal::{ClientError, Pushed};
@@ -31,10 +25,15 @@ const MAX_WATCHES: usize = 1_000;
 /// A client: its ring, its observers, and the events that it switched off.
 #[derive(Drop)]
 pub struct Client {
+    // both are set by `new`, and then read alone
     alloc: Global,
     name: Text,
+    // written by requests, pushes, replies and polls
     ring: Ring,
+    // `observe` adds one, `unobserve` takes some out, `flag` raises flags, and a poll clears them
+    // and notes what it gives; at most 1,000
     watches: Vec<Watch>,
+    // the numbers that `request_event` switched off and not on again
     off: IndexSet<u32>,
 }
 
@@ -48,7 +47,12 @@ impl Model for Client {
 
     ghost coded = { Prim.hlevel (codes, value.the_row.coded) };
 
-    ghost view = { λ c. record { name = c.name; ring = c.ring; watches = c.watches.items; off = c.off.keys } };
+    ghost view = { λ c. record {
+      name = c.name;
+      ring = c.ring;
+      watches = c.watches.items;
+      off = c.off.keys;
+    } };
 
     ghost invariant = { λ c. length c.watches.items ≤ 1000 };
 }
@@ -57,11 +61,11 @@ impl Client {
     /// A client of this name that observes nothing and has switched nothing off. Its ring has room
     /// for `size` events and places set aside, from 1 to 100,000.
     ///
-    /// Of every list of calls that follow, with their answers: each is at most one call of the ring,
-    /// of which the ring's law holds. So polls give events in the order in which they were kept, a
-    /// reply that was accepted was polled or is held, each accepted request has its place until its
-    /// reply comes, and an overflow is polled between an event that was dropped and the next that
-    /// is kept.
+    /// Of every list of calls that follow, with their answers: each is at most one call of the
+    /// ring, of which the ring's law holds. So polls give events in the order in which they were
+    /// kept, a reply that was accepted was polled or is held, each accepted request has its place
+    /// until its reply comes, and an overflow is polled between an event that was dropped and the
+    /// next that is kept.
     pub fn new(alloc: Global, name: Text, size: u32) -> Result<Client, RingError>
         ensures bad_size { (result ≡ Err BadSize) ↔ ((size ≡ 0) ⊎ (100000 < size)) }
         ensures made { IfOk result (λ c. c ≡ new_client name size) }
@@ -84,11 +88,36 @@ impl Client {
         &self.name
     }
 
+    /// Whether the ring refuses a request and drops an event: no place is free, or an overflow is
+    /// still to be polled.
+    pub fn is_full(&self) -> bool
+        ensures value { result ≡ is_full self.now.ring }
+        ensures client { IsClient self.now }
+    {
+        self.ring.is_full()
+    }
+
+    /// The places that are set aside for replies.
+    pub fn reserved(&self) -> u32
+        ensures { result ≡ self.now.ring.reserved }
+    {
+        self.ring.reserved()
+    }
+
+    /// Whether the events of a number are switched off.
+    pub fn is_off(&self, number: u32) -> bool
+        ensures { result ≡ has_off self.now number }
+    {
+        self.off.contains(&number)
+    }
+
     /// Sets a place in the ring aside for the reply to a request. It is refused exactly where the
     /// ring refuses one; the client then stays as it was.
     pub fn request(&mut self) -> Result<(), QueueFull>
         ensures value { result ≡ reserve_answer self.old.ring }
         ensures after { self.new ≡ after_request self.old }
+        ensures name { self.new.name ≡ self.old.name }
+        ensures watches { self.new.watches ≡ self.old.watches }
     {
         self.ring.reserve()
     }
@@ -97,6 +126,8 @@ impl Client {
     pub fn unreserve(&mut self)
         requires has_place { 0 < self.old.ring.reserved }
         ensures after { self.new ≡ after_return self.old }
+        ensures name { self.new.name ≡ self.old.name }
+        ensures watches { self.new.watches ≡ self.old.watches }
     {
         self.ring.unreserve();
     }
@@ -107,6 +138,8 @@ impl Client {
         requires kind { IsTrue (enters_ring event) }
         ensures value { result ≡ push_answer_of self.old event }
         ensures after { self.new ≡ after_push_of self.old event }
+        ensures name { self.new.name ≡ self.old.name }
+        ensures watches { self.new.watches ≡ self.old.watches }
     {
         if self.off.contains(&event.number()) {
             return Pushed::Off(event);
@@ -122,25 +155,47 @@ impl Client {
         requires has_place { 0 < self.old.ring.reserved }
         requires kind { IsTrue (is_reply reply) }
         ensures after { self.new ≡ after_reply_of self.old reply }
+        ensures name { self.new.name ≡ self.old.name }
+        ensures watches { self.new.watches ≡ self.old.watches }
     {
         self.ring.push_reply(reply);
     }
 
-    /// Switches the event of a number on or off: 6, 7 or 8 of a file, 16 for messages, 20 or 21 of a
-    /// seek. Each is on in a new client. After an error the client is as before.
+    /// Switches the event of a number on or off: 6, 7 or 8 of a file, 16 for messages, 20 or 21 of
+    /// a seek. Each is on in a new client, and then as the last such call with its number has it.
+    /// After an error the client is as before.
     pub fn request_event(&mut self, number: u32, on: bool) -> Result<(), ClientError>
         ensures refused { (result ≡ Err InvalidParameter) ↔ (can_switch number ≡ false) }
         ensures after { OnOk result (self.new ≡ after_switch self.old number on) }
+        ensures switched { OnOk result (Switches self.old self.new number on) }
         ensures err { OnErr result (self.new ≡ self.old) }
+        ensures name { self.new.name ≡ self.old.name }
+        ensures watches { self.new.watches ≡ self.old.watches }
     {
         if !can_switch(number) {
             return Err(ClientError::InvalidParameter);
         }
         if on {
-            self.off.shift_remove(&number);
-        } else {
-            self.off.insert(number)?;
+            self.switch_on(number);
+            return Ok(());
         }
+        self.switch_off(number)?;
+        Ok(())
+    }
+
+    fn switch_on(&mut self, number: u32)
+        ensures after { self.new ≡ after_switch self.old number true }
+        ensures switched { Switches self.old self.new number true }
+    {
+        self.off.shift_remove(&number);
+    }
+
+    fn switch_off(&mut self, number: u32) -> Result<(), NoMemory>
+        ensures after { OnOk result (self.new ≡ after_switch self.old number false) }
+        ensures switched { OnOk result (Switches self.old self.new number false) }
+        ensures err { OnErr result (self.new ≡ self.old) }
+    {
+        self.off.insert(number)?;
         Ok(())
     }
 
@@ -155,9 +210,10 @@ impl Client {
         entry: Option<u32>,
     ) -> Result<(), ClientError>
         ensures refused { (result ≡ Err InvalidParameter) ↔ (1000 ≤ length self.old.watches) }
-        ensures after { OnOk result (self.new ≡ after_observe self.old (new_watch id name format entry)) }
+        ensures after { OnOk result (self.new ≡
+            after_observe self.old (new_watch id name format entry)) }
         ensures err { OnErr result (self.new ≡ self.old) }
-        ensures fresh { (stated : ℕ → Facts → Reading) (entries : List PropEntry) (facts : Facts) → entry ≡ place_of (property_part name) entries → Fresh stated entries facts self.old.watches → Fresh stated entries facts self.new.watches }
+        ensures fresh { KeepsFreshAt name entry self.old.watches self.new.watches }
     {
         if self.watches.len() >= MAX_WATCHES {
             return Err(ClientError::InvalidParameter);
@@ -177,7 +233,7 @@ impl Client {
     pub fn unobserve(&mut self, id: u64) -> u32
         ensures count { result ≡ length (filter (has_id id) self.old.watches) }
         ensures after { self.new ≡ after_unobserve self.old id }
-        ensures fresh { (stated : ℕ → Facts → Reading) (entries : List PropEntry) (facts : Facts) → Fresh stated entries facts self.old.watches → Fresh stated entries facts self.new.watches }
+        ensures fresh { KeepsFresh self.old.watches self.new.watches }
     {
         let count = self.watches.iter().filter(|watch| watch.id == id).count();
         self.watches.retain(|watch| watch.id != id);
@@ -190,7 +246,7 @@ impl Client {
     pub fn flag<F: Reads<M>, M: Meaning>(&mut self, table: &PropTable<F, M>, mask: u32)
         requires { All (IsPlaced table.now) self.old.watches }
         ensures after { self.new ≡ after_flag self.old table.now mask }
-        ensures fresh { (f g : Facts) → AgreeOutside mask f g → Fresh M.value table.now f self.old.watches → Fresh M.value table.now g self.new.watches }
+        ensures fresh { Refreshes M.value table.now mask self.old.watches self.new.watches }
     {
         let _entries = table.entries();
         self.flag_all(table, mask);
@@ -204,21 +260,31 @@ impl Client {
     }
 
     /// The ring's oldest event; else one overflow where the ring is choked, which it isn't
-    /// afterwards; else what the first observer has that was last given something else; else `None`:
-    /// each observer was then last given what it has. The ring's events and an overflow take no
-    /// memory. After an error the client is as before.
+    /// afterwards; else what the first observer has that was last given something else; else
+    /// `None`: each observer was then last given what it has. The ring's events and an overflow
+    /// take no memory. After an error the client is as before.
     pub fn poll<F: Reads<M>, M: Meaning>(
         &mut self,
         table: &PropTable<F, M>,
         facts: &Facts,
     ) -> Result<Event, NoMemory>
         requires { Fresh M.value table.now facts.now self.old.watches }
+        // The event, and the client after it: in the places of its observers, and as functions of
+        // what is observed.
         ensures value { IfOk result (λ e. Polled (present M.value facts.now) self.old e self.new) }
+        ensures answer { IfOk result
+            (λ e. e ≡ poll_of (now_of M.value table.now facts.now) self.old) }
+        ensures seen { IfOk result (λ e. seen_by self.new ≡
+            seen_after (now_of M.value table.now facts.now) e (seen_by self.old)) }
+        ensures kind { IfOk result (λ e. 0 < length self.old.ring.events → IsTrue (enters_ring e)) }
+        // When there may be no memory, and what is left then.
         ensures err { OnErr result (self.new ≡ self.old) }
         ensures memory { 0 < length self.old.ring.events → IsOk result }
         ensures overflow { self.old.ring.choked ≡ true → IsOk result }
+        // Flags and what was last given say the truth afterwards, and no event means no news.
         ensures fresh { Fresh M.value table.now facts.now self.new.watches }
-        ensures settled { IfOk result (λ e. e ≡ Nothing → All (IsSettled (present M.value facts.now)) self.new.watches) }
+        ensures settled { IfOk result
+            (λ e. IsQuietAt (present M.value facts.now) e self.new.watches) }
     {
         self.take_next(table, facts)
     }
@@ -252,7 +318,9 @@ impl Client {
     ) -> Result<Event, NoMemory>
         requires { Fresh M.value table.now facts.now self.now.watches }
         ensures value { IfOk result (λ e. WouldPoll (present M.value facts.now) self.now e) }
-        ensures same { IfOk result (λ r. (e : Event) (after : ClientState) → Polled (present M.value facts.now) self.now e after → e ≡ r) }
+        ensures answer { IfOk result
+            (λ e. e ≡ poll_of (now_of M.value table.now facts.now) self.now) }
+        ensures same { IfOk result (λ r. IsSolePoll (present M.value facts.now) self.now r) }
     {
         self.see_next(table, facts)
     }

@@ -6,6 +6,7 @@ use std::alloc::{AllocError, AllocFailed};
 pub enum ClientError {
     /// There are 1,000 observers already, or no event of the number can be switched off and on.
     InvalidParameter,
+    /// There was no memory for the observer, or for the number that is switched off.
     NoMemory,
 }
 

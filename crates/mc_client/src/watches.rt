@@ -1,7 +1,7 @@
 //! A client's observers, in order of observing.
 
-ghost use Rattle.std.specs.Prelude.{◌≡◌, ◌<◌, ◌+◌, ◌++◌, ◌∷◌, ℕ, IfOk, OnErr, MatchOption, Option, Bool, false, All, List, map, take, drop, length, slice_get};
-ghost use Rattle.mc_client.specs.Polls.{Finds, WatchesPolled, told_at};
+ghost use Rattle.std.specs.Prelude.{◌≡◌, ◌<◌, ◌+◌, ◌++◌, ◌∷◌, ℕ, IfOk, OnErr, Option, Bool, false, All, List, map, take, drop, length, slice_get};
+ghost use Rattle.mc_client.specs.Polls.{Finds, IsNews, WatchesPolled, WouldTell, told_at};
 ghost use Rattle.mc_client.specs.Watches.{Fresh, IsPlaced, IsSettled, IsSure, cleared, flagged_for, present};
 ghost use Rattle.mc_client.specs.declared.watch.Watch.{Watch};
 
@@ -15,7 +15,9 @@ use std::alloc::Global;
 /// The place of an observer, and the format and the value that it has now.
 #[derive(Debug, Drop)]
 pub struct Changed {
+    /// The observer's place.
     pub place: usize,
+    /// The format and the value that it has.
     pub shown: (Format, Value),
 }
 
@@ -44,7 +46,7 @@ fn news<F: Reads<M>, M: Meaning>(
 ) -> Result<Option<(Format, Value)>, NoMemory>
     requires placed { IsPlaced table.now watch.now }
     requires sure { IsSure (present M.value facts.now) watch.now }
-    ensures { IfOk result (λ o. let now = present M.value facts.now in MatchOption o (IsSettled now watch.now) (λ shown. (shown ≡ now watch.now) × (IsSettled now watch.now → ⊥))) }
+    ensures { IfOk result (λ o. IsNews (present M.value facts.now) watch.now o) }
 {
     if !watch.flagged {
         return Ok(None);
@@ -65,7 +67,7 @@ pub fn next_change<F: Reads<M>, M: Meaning>(
     facts: &Facts,
 ) -> Result<Event, NoMemory>
     requires { Fresh M.value table.now facts.now watches.now }
-    ensures { IfOk result (λ e. (ws : List Watch) × WatchesPolled (present M.value facts.now) watches.now e ws) }
+    ensures { IfOk result (λ e. WouldTell (present M.value facts.now) watches.now e) }
 {
     match first_changed(watches, table, facts)? {
         Some(changed) => watches[changed.place].change(alloc, &changed.shown),
@@ -81,7 +83,8 @@ pub fn poll_watches<F: Reads<M>, M: Meaning>(
     facts: &Facts,
 ) -> Result<Event, NoMemory>
     requires { Fresh M.value table.now facts.now watches.old }
-    ensures value { IfOk result (λ e. WatchesPolled (present M.value facts.now) watches.old e watches.new) }
+    ensures value { IfOk result
+        (λ e. WatchesPolled (present M.value facts.now) watches.old e watches.new) }
     ensures err { OnErr result (watches.new ≡ watches.old) }
 {
     match first_changed(watches, table, facts)? {
@@ -134,7 +137,8 @@ pub fn clear_flags(watches: &mut [Watch])
 /// Notes that the observers before a place were read, and what the one there is given.
 pub fn tell(watches: &mut [Watch], changed: Changed)
     requires { changed.place < length watches.old }
-    ensures { (w : Watch) → slice_get watches.old changed.place ≡ Option.Some w → watches.new ≡ told_at watches.old changed.place w changed.shown }
+    ensures { (w : Watch) → slice_get watches.old changed.place ≡ Option.Some w
+        → watches.new ≡ told_at watches.old changed.place w changed.shown }
 {
     let (before, rest) = watches.split_at_mut(changed.place);
     clear_flags(before);

@@ -4,9 +4,10 @@
 # with status 1 and 'mcplay: out of memory'. What it printed is then a front of the undisturbed text, in
 # whole lines; or a line 'starved' stands in it, and it is such a front up to there, since a want of
 # memory to read on is told to the readers, and the script goes on.
-# Then, where 'rt ci' or 'rt test' built them, the tests of mc_demux whose table repeats each call that wants
-# memory: the second answer has to be the table's, so the first left the demuxer as it was; only where a
-# demuxer is opened a test ends with that want.
+# Then, where 'rt ci' or 'rt run' built them, the programs of rows: behind the line '# patient' a row that
+# found no memory is called once more, and has to answer then what it always answers, so the first call left
+# all as it was. Each run has to print all that is wanted, or to end with status 1 and a front of it in whole
+# lines, where memory was wanting for a line or its answer.
 # Usage: tests/refused_memory.sh [N...]; without N it takes all requests of each run. It needs a C
 # compiler, and is no part of .ci/run. 'rt try --fail-alloc N' refuses the same requests in a build with
 # checks; there N is a part of the program, so that each takes a build.
@@ -59,10 +60,9 @@ void *realloc(void *old, size_t n)
 C
 cc -O1 -shared -fPIC -fno-builtin -o "$folder/refuse.so" "$folder/refuse.c" || exit 1
 
-# Writes the octets of a film of the tests in memory.
+# Writes the octets of a film that the rows of runs name.
 film() {
-    printf '%b' "$(sed -n "/^pub const $1:/,/^];/p" crates/run_tests/src/films.rt |
-        grep -o '0x[0-9A-F][0-9A-F]' | sed 's/0x/\\x/' | tr -d '\n')" >"$folder/$1"
+    printf '%b' "$(sed -n "s/^\[\"film\",\"$1\",\"\([0-9A-F]*\)\"\]$/\1/p" crates/run_rows/stdin | sed 's/../\\x&/g')" >"$folder/$1"
 }
 
 # Runs the program with the Nth request refused, none where N is 0.
@@ -122,25 +122,44 @@ sweep() {
         "${counts[starved]} told a reader, ${counts[whole]} made no difference, ${counts[wrong]} went wrong"
 }
 
-# Runs the table of calls of a demuxer with each of its requests refused.
+# Runs a program of rows with the Nth request refused, none where N is 0.
+answer() {
+    REFUSED=$1 COUNTED=$folder/counted LD_PRELOAD=$folder/refuse.so "$2" <"$folder/rows" >"$folder/text" 2>/dev/null
+}
+
+# Takes one run after the other of a program of rows; the rows of texts of 16 MiB are left out.
 table() {
-    local n all=0 said tests=$PWD/crates/mc_demux/out/mc_demux_tests name=tests::answers_by_the_rules these=("${numbers[@]}")
-    declare -A counts=([ok]=0 [open]=0 [wrong]=0)
-    [ -x "$tests" ] || { echo "refused memory: no $tests, so no table of calls"; return; }
-    (REFUSED=0 COUNTED=$folder/counted LD_PRELOAD=$folder/refuse.so "$tests" "$name" >"$folder/text" 2>&1) && all=$(cat "$folder/counted")
+    local n all said rows=$PWD/crates/$1 these=("${numbers[@]}")
+    declare -A counts=([whole]=0 [front]=0 [wrong]=0)
+    [ -x "$rows/out/$1" ] || { echo "refused memory: no $rows/out/$1, so no rows of it"; return; }
+    paste -d $'\x01' "$rows/stdin" "$rows/stdout" | grep -v '^\["long"' >"$folder/both"
+    { echo '# patient'; cut -d $'\x01' -f 1 "$folder/both"; } >"$folder/rows"
+    { echo '# patient'; cut -d $'\x01' -f 2 "$folder/both"; } >"$folder/whole"
+    if ! answer 0 "$rows/out/$1" || ! cmp -s "$folder/text" "$folder/whole"; then
+        echo "refused memory: the rows of $1 fail undisturbed"
+        failed=$((failed + 1))
+        return
+    fi
+    all=$(cat "$folder/counted")
     [ ${#these[@]} -gt 0 ] || mapfile -t these < <(seq "$all")
     for n in "${these[@]}"; do
-        said=$(REFUSED=$n LD_PRELOAD=$folder/refuse.so "$tests" "$name" 2>&1 | tail -n 1)
-        case $said in
-        "test result: ok") came=ok ;;
-        *"its result gives status 1") came=open ;;
-        *) came=wrong ;;
-        esac
+        answer "$n" "$rows/out/$1"
+        said=$?
+        if [ $said = 0 ] && cmp -s "$folder/text" "$folder/whole"; then
+            came=whole
+        elif [ $said = 1 ] && is_front "$folder/text"; then
+            came=front
+        else
+            came=wrong
+            echo "refused memory: the rows of $1 with request $n refused end with $said"
+            diff "$folder/text" "$folder/whole" | head -n 3
+        fi
         counts[$came]=$((counts[$came] + 1))
     done
-    passed=$((passed + counts[ok] + counts[open]))
-    failed=$((failed + counts[wrong] + (all == 0)))
-    echo "calls of a demuxer: of $all requests for memory ${#these[@]} refused: ${counts[ok]} answered by the table, ${counts[open]} while opening, ${counts[wrong]} went wrong"
+    passed=$((passed + counts[whole] + counts[front]))
+    failed=$((failed + counts[wrong]))
+    echo "rows of $1: of $all requests for memory ${#these[@]} refused: ${counts[whole]} made no difference," \
+        "${counts[front]} ended early, ${counts[wrong]} went wrong"
 }
 
 film PLAIN
@@ -151,6 +170,8 @@ printf 'demux 7\nseek 0.24\ndemux 6\nseek 0\ndemux 8\nshow\n' >"$folder/join"
 sweep --back=0 PLAIN forget
 sweep SWITCHED switch
 sweep PLAIN join
-table
+for name in script_rows queue_rows range_rows cache_rows demux_rows; do
+    table "$name"
+done
 echo "refused memory: $passed passed, $failed failed"
 [ "$failed" -eq 0 ]

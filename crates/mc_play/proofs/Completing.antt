@@ -197,8 +197,7 @@ fulfils_done (Some files) words line before now hd s f w =
         (
           film.2.0,
           film.2.1,
-          λ are.
-              let plays = film.2.2 are in
+          let plays = film.2.2 in
               played_out _ s.lines None _ hd plays.runs (quiet (film_for film.2.0) line.limits hd plays.used f w),
         ),
       ),

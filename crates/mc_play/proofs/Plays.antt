@@ -4,7 +4,7 @@ use Rattle.std.specs.Prelude.{reverse, ◌^◌, ℤ, pos, ◌≤ℤ◌}
 use Rattle.std.specs.Int.Signed.{<ℤ-≤ℤ_trans, clash_ℤ, le_z_yes}
 use Rattle.std.specs.List.{AllByRecursion}
 use Rattle.std.proofs.lemmas.Int.{by_lt_z}
-use Rattle.mc_outside.specs.Shelf.{Files, Opened as OpenedFiles, content}
+use Rattle.mc_outside.specs.Shelf.{Files, Opened as OpenedFiles, content, AreBytes}
 use Rattle.mc_tracks.specs.declared.refused.Refused.{Refused}
 use Rattle.mc_packet.specs.declared.cache.Limits.{Limits}
 use Rattle.mc_tracks.specs.TrackList.{default_choice_of}
@@ -40,7 +40,7 @@ use Rattle.mc_world.proofs.Opened.{begins-together, has-tracks}
 use Rattle.mc_world.proofs.Ruling.{stands_for}
 use Rattle.mc_play.specs.Asked.{name_at}
 use Rattle.mc_play.specs.Opening.{IsOpened as IsOpenedFilm, OpensFilm}
-use Rattle.mc_play.specs.Run.{AreOctets, Plays, PlaysFilm}
+use Rattle.mc_play.specs.Run.{Plays, PlaysFilm}
 
 -- octets open as one film alone
 same_film : (r : Result Plan Refused) (p q : Plan) → r ≡ Ok p → r ≡ Ok q → q ≡ p
@@ -73,7 +73,7 @@ plays_from octets c limits lines halt d d' opens drives demux cursor kept list j
     (subst (λ (j : List DemuxRecord). Runs rd lines j d'.demux.journal halt) journal (runs rd start))
 
 -- a driver that begins
-pub begins : (octets : List ℕ) (c : Cursor) (limits : Limits) (x : Index) (d : DemuxState) → AreOctets octets → OpensFilm octets c → ((plan : Plan) → plan.tracks ≡ c.tracks → IsIndexOf plan x)
+pub begins : (octets : List ℕ) (c : Cursor) (limits : Limits) (x : Index) (d : DemuxState) → AreBytes octets → OpensFilm octets c → ((plan : Plan) → plan.tracks ≡ c.tracks → IsIndexOf plan x)
     → IsOpened c.tracks (default_choice_of c.tracks) limits d → ((film : Film) → HasTracks c.tracks film → StandsFor film d) → Drives octets (record { demux = d; cursor = c; index = x })
 begins octets c limits x d all opens index opened film =
     let plan = plan_for octets c in
@@ -98,14 +98,14 @@ wide_limits limits h =
 
 film_told : (files : Option Files) (opened : OpenedFiles) (words : List (List ℕ)) (line : RunLine) (c : Cursor) (lines : List (ℕ × Act)) (halt : Result Unit Halt) (hd : List DemuxRecord)
     → IsOpenedFilm files opened (name_at words line.file) c
-    → ((octets : List ℕ) → content files opened c.file.0 ≡ Some octets → AreOctets octets → OpensFilm octets c → Plays (plan_for octets c) line.limits lines halt hd) → PlaysFilm files words line lines halt hd
+    → ((octets : List ℕ) → content files opened c.file.0 ≡ Some octets → OpensFilm octets c → Plays (plan_for octets c) line.limits lines halt hd) → PlaysFilm files words line lines halt hd
 film_told None opened words line c lines halt hd opens plays = tt
 film_told (Some files) opened words line c lines halt hd opens plays =
-    (opens.0, opens.1, (plan_for opens.0 c, opens.3.stands.opened, λ all. plays opens.0 opens.2 all opens.3))
+    (opens.0, opens.1, (plan_for opens.0 c, opens.3.stands.opened, plays opens.0 opens.2 opens.3))
 
 pub film_played : (files files' : Option Files) (opened : OpenedFiles) (words : List (List ℕ)) (line : RunLine) (c : Cursor) (lines : List (ℕ × Act)) (halt : Result Unit Halt) (hd : List DemuxRecord) → files' ≡ files
     → IsOpenedFilm files' opened (name_at words line.file) c
-    → ((octets : List ℕ) → content files' opened c.file.0 ≡ Some octets → AreOctets octets → OpensFilm octets c → Plays (plan_for octets c) line.limits lines halt hd) → PlaysFilm files words line lines halt hd
+    → ((octets : List ℕ) → content files' opened c.file.0 ≡ Some octets → OpensFilm octets c → Plays (plan_for octets c) line.limits lines halt hd) → PlaysFilm files words line lines halt hd
 film_played files files' opened words line c lines halt hd e opens plays =
     subst (λ (f : Option Files). PlaysFilm f words line lines halt hd) e (film_told files' opened words line c lines halt hd opens plays)
 

@@ -20,7 +20,7 @@ use Rattle.mc_script.specs.declared.exit.Exit.TheVariants as exits
 use Rattle.mc_script.specs.declared.options.RunLine.{RunLine}
 use Rattle.mc_script.specs.Plays.{Leaves, Readings, reader, readings, selection, taken_after}
 use Rattle.mc_play.specs.Asked.{FileIs, ScriptIs, name_at}
-use Rattle.mc_play.specs.Run.{AreOctets, Counts}
+use Rattle.mc_play.specs.Run.{Counts}
 
 -- ---- drains to the ends
 
@@ -62,7 +62,7 @@ abbrev pub Fulfils : Option Files → List (List ℕ) → RunLine → List Demux
 Fulfils files words line hd exits.Done =
     (lines : List (ℕ × Act)) × ScriptIs files words line.script lines
     × FileIs files (name_at words line.file) (λ octets. (plan : Plan) × (opened_film octets ≡ Ok plan)
-    × (AreOctets octets → PlayedOut (readings (film_for plan) line.limits (choice_for plan.tracks)) lines None (Opened 0 (default_choice_of plan.tracks) ∷ []) hd))
+    × PlayedOut (readings (film_for plan) line.limits (choice_for plan.tracks)) lines None (Opened 0 (default_choice_of plan.tracks) ∷ []) hd)
 Fulfils files words line hd exits.NoMemory = ⊤
 Fulfils files words line hd _ = ⊥
 

@@ -45,14 +45,10 @@ pub record Plays (plan : Plan) (limits : Limits) (lines : List (ℕ × Act)) (ha
   pub legal : IsRegular (film_told plan) (known_in plan.tracks) → IsLegal (film_told plan) (film_for plan).ending (reverse hd)
   pub gapless : IsGapless (film_told plan) (film_for plan).ending (reverse hd)
 
--- numbers of a file that are octets
-abbrev pub AreOctets : List ℕ → Type 0
-AreOctets octets = All (λ b. b < 256) octets
-
 -- the told film's; where none is told, any
 abbrev pub PlaysFilm : Option Files → List (List ℕ) → RunLine → List (ℕ × Act) → Result Unit Halt → List DemuxRecord → Type 0
 PlaysFilm files words line lines halt hd =
-    FileIs files (name_at words line.file) (λ octets. (plan : Plan) × (opened_film octets ≡ Ok plan) × (AreOctets octets → Plays plan line.limits lines halt hd))
+    FileIs files (name_at words line.file) (λ octets. (plan : Plan) × (opened_film octets ≡ Ok plan) × Plays plan line.limits lines halt hd)
 
 -- the steps of the script that the words name were made over the film that they name. Whatever the shelf tells, one opening
 -- stands first, and each failure bears counts of faults between those before and now

@@ -1,13 +1,14 @@
 ghost use Rattle.std.specs.Prelude.{◌≡◌, ◌≤◌, ℕ, List, ◌∷◌, [], Some, false, IfOk};
-ghost use Rattle.mc_outside.specs.Shelf.{content};
+ghost use Rattle.mc_outside.specs.Shelf.{AreBytes};
 ghost use Rattle.mc_tracks.specs.TrackList.{default_choice_of};
+ghost use Rattle.mc_cursor.specs.Reads.{InFile};
 ghost use Rattle.mc_cursor.specs.Standing.{plan_for};
 ghost use Rattle.mc_journal.specs.declared.record.DemuxRecord.TheVariants.{Opened};
 ghost use Rattle.mc_script.specs.Pairing.{IsPaired};
 ghost use Rattle.mc_script.specs.RunLines.{AreLimits};
 ghost use Rattle.mc_lines.specs.Lines.{Grows, IsFull};
 ghost use Rattle.mc_play.specs.Opening.{OpensFilm};
-ghost use Rattle.mc_play.specs.Run.{AreOctets, Plays};
+ghost use Rattle.mc_play.specs.Run.{Plays};
 ghost use Rattle.mc_tracks.specs.TrackList.{IsTrackList};
 ghost use Rattle.mc_journal.specs.Films.{Film};
 ghost use Rattle.mc_demux.specs.Demuxers.{IsDemux};
@@ -52,7 +53,8 @@ fn open_demux(alloc: Global, list: TrackList, limits: Limits) -> Result<Demux, N
 /// A driver of the film at whose opening the cursor stands.
 fn open_driver(alloc: Global, cursor: Cursor, limits: Limits) -> Result<Driver, NoMemory>
     requires limits { AreLimits limits }
-    ensures film { (octets : List ℕ) → AreOctets octets → OpensFilm octets cursor → IfOk result (Drives octets) }
+    ensures film { (octets : List ℕ) → AreBytes octets → OpensFilm octets cursor
+        → IfOk result (Drives octets) }
     ensures journal { IfOk result (λ d. d.demux.journal ≡ Opened 0 (default_choice_of cursor.tracks) ∷ []) }
     ensures cursor { IfOk result (λ d. d.cursor ≡ cursor) }
     ensures limits { IfOk result (λ d. d.demux.cache.limits ≡ limits) }
@@ -80,7 +82,9 @@ pub(crate) fn play<D: Shelf>(
 ) -> Result<Played, NoMemory>
     requires limits { AreLimits limits }
     requires paired { IsPaired false script.now }
-    ensures played { (octets : List ℕ) → content (D.files shelf.old) (D.opened shelf.old) cursor.file.0 ≡ Some octets → AreOctets octets → OpensFilm octets cursor → IfOk result (λ p. Plays (plan_for octets cursor) limits script.now p.halt p.hd) }
+    ensures played { InFile D.files D.opened shelf.old cursor.file.0
+        (λ octets. OpensFilm octets cursor
+        → IfOk result (λ p. Plays (plan_for octets cursor) limits script.now p.halt p.hd)) }
     ensures grows { IfOk result (λ p. Grows (D.faults shelf.old) (D.faults shelf.new) (Opened 0 (default_choice_of cursor.tracks) ∷ []) p.hd) }
     ensures full { IfOk result (λ p. IsFull p.hd p.halt) }
     ensures files { D.files shelf.new ≡ D.files shelf.old }

@@ -35,6 +35,7 @@ use Rattle.mc_walk.specs.Moves.{settle, move_of}
 use Rattle.mc_walk.specs.Blocks.{◌>>=◌, faulted, some_body, body_in, known_track, timed, tracked, opened, block_element_of}
 use Rattle.mc_walk.specs.Walk.{stands_at, stamped, blocked, time_of, passed, moved, headed, step_at, steps, walk, after, film_walk, Rest}
 use Rattle.mc_walk.proofs.Framing.{are-its-frames}
+use Rattle.mc_outside.specs.Shelf.{AreBytes}
 use Rattle.mc_journal.specs.Told.{told}
 use Rattle.mc_journal.specs.Films.{IsFilm, IsRising, HasLanes, at, rank}
 use Rattle.mc_index.specs.Fronts.{film_told, told_all}
@@ -42,10 +43,7 @@ use Rattle.mc_index.specs.Scans.{IsPlan}
 
 -- ---- octets
 
-abbrev pub AreOctets : List ℕ → Type 0
-AreOctets octets = All (λ b. b < 256) octets
-
-range-octets : (octets : List ℕ) (from to : ℕ) → AreOctets octets → AreOctets (slice_range octets from to)
+range-octets : (octets : List ℕ) (from to : ℕ) → AreBytes octets → AreBytes (slice_range octets from to)
 range-octets octets from to all = All-take (λ b. b < 256) (to - from) (drop from octets) (All-drop (λ b. b < 256) from octets all)
 
 -- ---- how many frames a block has
@@ -83,7 +81,7 @@ fitted-few stop n (Some x) small counts =
     cond_both (nat_le (sum x.0) (length x.1)) _ _ (λ r. IfOk r AreFew)
     (λ e. let count = spans-count (stop - length x.1) stop x.0 in omega (arith, count, counts, small)) (λ e. tt)
 
-laced-few : (lacing : _) (rest : List ℕ) → ((n : ℕ) (octets : List ℕ) → IfSome (lace_sizes lacing n octets) (Counts n)) → AreOctets rest → IfOk (laced lacing rest) AreFew
+laced-few : (lacing : _) (rest : List ℕ) → ((n : ℕ) (octets : List ℕ) → IfSome (lace_sizes lacing n octets) (Counts n)) → AreBytes rest → IfOk (laced lacing rest) AreFew
 laced-few lacing [] counts all = tt
 laced-few lacing (n ∷ octets) counts all =
     fitted-few (length (n ∷ octets)) n (lace_sizes lacing n octets) (All-head (λ b. b < 256) n octets all) (counts n octets)
@@ -104,7 +102,7 @@ laced-frames flags rest =
     cond_both (bits == 1) _ _ (λ lacing. has_lace lacing ≡ true → frames_in lacing rest ≡ laced lacing rest) (λ e h. refl) (λ e.
     cond_both (bits == 2) _ _ (λ lacing. has_lace lacing ≡ true → frames_in lacing rest ≡ laced lacing rest) (λ e h. refl) (λ e h. refl)))
 
-frames-few : (flags : ℕ) (rest : List ℕ) → AreOctets rest → IfOk (frames_of flags rest) AreFew
+frames-few : (flags : ℕ) (rest : List ℕ) → AreBytes rest → IfOk (frames_of flags rest) AreFew
 frames-few flags rest all = elim (cases_Bool (is_laced flags)) [
   | inl laces ↦ rw (laced-frames flags rest laces) (laced-few (lacing_of flags) rest (lacing-counts flags) all)
   | inr alone ↦ rw (single_frame flags rest alone) (omega arith)
@@ -145,7 +143,7 @@ any : {X E : Type 0} (r : Result X E) → IfOk r Any
 any (Ok x) = tt
 any (Err e) = tt
 
-packets-laned : (place : Place) (body : BlockBody) → AreOctets body.octets → IfOk (packets_of place body) AreLaned
+packets-laned : (place : Place) (body : BlockBody) → AreBytes body.octets → IfOk (packets_of place body) AreLaned
 unfolding packets_of
 packets-laned place body all =
     block-then Any AreLaned (head_of body.octets) _ (any (head_of body.octets)) (λ head _.
@@ -155,25 +153,25 @@ packets-laned place body all =
 -- ---- the block of an element
 
 abbrev HasOctets : Option BlockBody → Type 0
-HasOctets found = IfSome found (λ body. AreOctets body.octets)
+HasOctets found = IfSome found (λ body. AreBytes body.octets)
 
-simple-octets : (octets : List ℕ) → AreOctets octets → IfOk (some_body (simple_body_of octets)) HasOctets
+simple-octets : (octets : List ℕ) → AreBytes octets → IfOk (some_body (simple_body_of octets)) HasOctets
 simple-octets octets all = cond_both (is_large octets) _ _ (λ r. IfOk (some_body r) HasOctets) (λ e. tt) (λ e. all)
 
 by-option : {C : Type 0} (f : Option C → Result (Option BlockBody) BlockError) → IfOk (f None) HasOctets → ((c : C) → IfOk (f (Some c)) HasOctets) → (o : Option C) → IfOk (f o) HasOctets
 by-option f none some None = none
 by-option f none some (Some c) = some c
 
-map-octets : {C : Type 0} (f : C → BlockBody) → ((c : C) → AreOctets (f c).octets) → (o : Option C) → HasOctets (option_map f o)
+map-octets : {C : Type 0} (f : C → BlockBody) → ((c : C) → AreBytes (f c).octets) → (o : Option C) → HasOctets (option_map f o)
 map-octets f each None = tt
 map-octets f each (Some c) = each c
 
-group-octets : (octets : List ℕ) → AreOctets octets → IfOk (group_body_of octets) HasOctets
+group-octets : (octets : List ℕ) → AreBytes octets → IfOk (group_body_of octets) HasOctets
 unfolding group_body_of
 group-octets octets all = cond_both (is_large octets) _ _ (λ (r : Result (Option BlockBody) BlockError). IfOk r HasOctets) (λ e. tt) (λ e.
     by-option (block_among octets) tt (λ cs. map-octets (block_in octets cs) (λ c. range-octets octets c.at c.stop all) (first_block cs)) (children_of octets))
 
-body-octets : (role : Role) (octets : List ℕ) → AreOctets octets → IfOk (body_in role octets) HasOctets
+body-octets : (role : Role) (octets : List ℕ) → AreBytes octets → IfOk (body_in role octets) HasOctets
 body-octets roles.SimpleBlock octets all = simple-octets octets all
 body-octets roles.BlockGroup octets all = group-octets octets all
 body-octets roles.Other octets all = tt
@@ -187,13 +185,13 @@ fault-then : {X Y : Type 0} (P : X → Type 0) (Q : Y → Type 0) (r : Result X 
 fault-then P Q (Ok x) f h each = each x h
 fault-then P Q (Err e) f h each = tt
 
-timed-laned : (place scale : ℕ) (time : Option ℕ) (body : BlockBody) (duration : Option ℕ) → AreOctets body.octets → IfOk (timed place scale time body duration) AreLaned
+timed-laned : (place scale : ℕ) (time : Option ℕ) (body : BlockBody) (duration : Option ℕ) → AreBytes body.octets → IfOk (timed place scale time body duration) AreLaned
 timed-laned place scale None body duration all = tt
 timed-laned place scale (Some time) body duration all =
     let there : Place = record { pos = place; cluster_time = time; scale = scale; duration = duration } in
     faulted-ok AreLaned (packets_of there body) (packets-laned there body all)
 
-tracked-laned : (place scale : ℕ) (time : Option ℕ) (body : BlockBody) (track : Option Track) → AreOctets body.octets → IfOk (tracked place scale time body track) AreLaned
+tracked-laned : (place scale : ℕ) (time : Option ℕ) (body : BlockBody) (track : Option Track) → AreBytes body.octets → IfOk (tracked place scale time body track) AreLaned
 tracked-laned place scale time body None all = tt
 tracked-laned place scale time body (Some t) all = timed-laned place scale time body t.duration all
 
@@ -202,7 +200,7 @@ opened-laned tracks place scale time None all = tt
 opened-laned tracks place scale time (Some body) all =
     fault-then Any AreLaned (faulted (track_of body.octets)) _ (any (faulted (track_of body.octets))) (λ n _. tracked-laned place scale time body (known_track tracks n) all)
 
-element-laned : (tracks : List Track) (scale place : ℕ) (time : Option ℕ) (role : Role) (octets : List ℕ) → AreOctets octets
+element-laned : (tracks : List Track) (scale place : ℕ) (time : Option ℕ) (role : Role) (octets : List ℕ) → AreBytes octets
     → IfOk (block_element_of tracks scale place time role octets) AreLaned
 unfolding block_element_of
 element-laned tracks scale place time role octets all =
@@ -225,7 +223,7 @@ blocked-laned : (place stop : ℕ) (level : Level) (packets : Result (List Packe
 blocked-laned place stop level (Ok packets) laned = laned
 blocked-laned place stop level (Err fault) laned = tt
 
-passed-laned : (plan : Plan) (place : ℕ) (role : Role) (body : List ℕ) (stop : ℕ) (level : Level) → AreOctets body → GivesLaned (passed plan place role body stop level)
+passed-laned : (plan : Plan) (place : ℕ) (role : Role) (body : List ℕ) (stop : ℕ) (level : Level) → AreBytes body → GivesLaned (passed plan place role body stop level)
 passed-laned plan place roles.Other body stop level all = tt
 passed-laned plan place roles.Timestamp body stop level all = stamped-laned place stop level (uint_of body)
 passed-laned plan place roles.SimpleBlock body stop level all =
@@ -235,14 +233,14 @@ passed-laned plan place roles.BlockGroup body stop level all =
     blocked-laned place stop level (block_element_of plan.tracks plan.scale place (time_of level) roles.BlockGroup body)
     (element-laned plan.tracks plan.scale place (time_of level) roles.BlockGroup body all)
 
-moved-laned : (plan : Plan) (place : ℕ) (m : Move) → AreOctets plan.octets → GivesLaned (moved plan place m)
+moved-laned : (plan : Plan) (place : ℕ) (m : Move) → AreBytes plan.octets → GivesLaned (moved plan place m)
 moved-laned plan place (moves.Fault fault) all = tt
 moved-laned plan place (moves.Enter to level) all = tt
 moved-laned plan place (moves.Pass role from stop level) all =
     cond_both (nat_lt (length plan.octets) stop) _ _ GivesLaned (λ e. tt)
     (λ e. passed-laned plan place role (slice_range plan.octets from stop) stop level (range-octets plan.octets from stop all))
 
-headed-laned : (plan : Plan) (place : ℕ) (level : Level) (h : Result Head EbmlError) → AreOctets plan.octets → GivesLaned (headed plan place level h)
+headed-laned : (plan : Plan) (place : ℕ) (level : Level) (h : Result Head EbmlError) → AreBytes plan.octets → GivesLaned (headed plan place level h)
 headed-laned plan place level (Ok h) all = moved-laned plan place (move_of plan.segment_end level h.id h.body h.size) all
 headed-laned plan place level (Err errors.Short) all = tt
 headed-laned plan place level (Err errors.BadId) all = tt
@@ -250,7 +248,7 @@ headed-laned plan place level (Err errors.BadSize) all = tt
 headed-laned plan place level (Err errors.BadUint) all = tt
 headed-laned plan place level (Err errors.BadText) all = tt
 
-step-laned : (plan : Plan) (place : ℕ) (level : Level) → AreOctets plan.octets → GivesLaned (step_at plan place level)
+step-laned : (plan : Plan) (place : ℕ) (level : Level) → AreBytes plan.octets → GivesLaned (step_at plan place level)
 unfolding step_at
 step-laned plan place level all =
     cond_both (stands_at plan.segment_end place || place == length plan.octets) _ _ GivesLaned (λ e. tt)
@@ -267,7 +265,7 @@ after-laned (End ending) on one others = tt
 after-laned (On to inner None) on one others = others to inner
 after-laned (On to inner (Some packets)) on one others = laned-append packets (on to inner).0 one (others to inner)
 
-walk-laned : (n : ℕ) (plan : Plan) (place : ℕ) (level : Level) → AreOctets plan.octets → AreLaned (walk n plan place level).0
+walk-laned : (n : ℕ) (plan : Plan) (place : ℕ) (level : Level) → AreBytes plan.octets → AreLaned (walk n plan place level).0
 unfolding walk
 walk-laned zero plan place level all = tt
 walk-laned (suc n) plan place level all =
@@ -293,7 +291,7 @@ told-rising [] order laned = tt
 told-rising (p ∷ ps) order laned = (all-below p ps laned.0.0 order.0, told-rising ps order.1 laned.1)
 
 -- what stands in a file is a film's list
-pub is-film : (plan : Plan) → IsPlan plan → AreOctets plan.octets → IsFilm (film_told plan)
+pub is-film : (plan : Plan) → IsPlan plan → AreBytes plan.octets → IsFilm (film_told plan)
 is-film plan is all =
     let laned = walk-laned (steps plan) plan plan.opening levels.Segment all in
     record {

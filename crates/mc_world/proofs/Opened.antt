@@ -4,6 +4,7 @@ use Rattle.std.proofs.lemmas.Bool.{cond_both, cases_Bool, and_parts, eqb-true, e
 use Rattle.std.proofs.lemmas.Map.Keys.{IsDistinct-head, IsDistinct-tail}
 use Rattle.std.specs.Prelude.{IfOk, IfSome, IsSomeAnd, find, not}
 use Rattle.std.specs.List.{AllByRecursion}
+use Rattle.mc_outside.specs.Shelf.{AreBytes}
 use Rattle.mc_packet.specs.declared.cache.Limits.{Limits}
 use Rattle.mc_packet.specs.declared.choice.Choice.{Choice}
 use Rattle.mc_packet.specs.declared.choice.Kind.{Kind}
@@ -33,7 +34,7 @@ use Rattle.mc_demux.specs.Opening.{HasTracks, IsOpened, first_starts}
 use Rattle.mc_demux.specs.Selecting.{is_listed_as, is_coded, knows}
 use Rattle.mc_world.specs.Filmed.{film_for}
 use Rattle.mc_world.specs.Driving.{StandTogether}
-use Rattle.mc_world.proofs.Listing.{AreOctets, is-film}
+use Rattle.mc_world.proofs.Listing.{is-film}
 
 -- ---- the film's tracks
 
@@ -42,7 +43,7 @@ known-by kind None = refl
 known-by kind (Some t) = refl
 
 -- the film of a plan has the plan's tracks
-pub has-tracks : (plan : Plan) → IsPlan plan → AreOctets plan.octets → HasTracks plan.tracks (film_for plan)
+pub has-tracks : (plan : Plan) → IsPlan plan → AreBytes plan.octets → HasTracks plan.tracks (film_for plan)
 has-tracks plan is all = record { film_is = is-film plan is all; known = λ kind track. known-by kind (numbered track plan.tracks) }
 
 -- ---- the first choice of tracks

@@ -1,5 +1,6 @@
 //! What opening a file gives a driver: laws over every film.
-ghost use Rattle.std.specs.Prelude.{◌≡◌, ◌<◌, ℕ, List, All, Ok, true};
+ghost use Rattle.std.specs.Prelude.{◌≡◌, ℕ, List, Ok, true};
+ghost use Rattle.mc_outside.specs.Shelf.{AreBytes};
 ghost use Rattle.mc_packet.specs.declared.cache.Limits.{Limits};
 ghost use Rattle.mc_tracks.specs.declared.track.Track.{Track};
 ghost use Rattle.mc_tracks.specs.TrackList.{IsTrackList, default_choice_of};
@@ -23,13 +24,13 @@ ghost use Rattle.mc_world.specs.Driving.{StandTogether};
 /// The packets of a film of octets are a film's list: their places rise, their lanes are small, and
 /// only frame 0 of a block is a sync point.
 pub fn film_lists()
-    ensures { (plan : Plan) → IsPlan plan → All (λ b. b < 256) plan.octets → IsFilm (film_told plan) }
+    ensures { (plan : Plan) → IsPlan plan → AreBytes plan.octets → IsFilm (film_told plan) }
 {}
 
 /// A demuxer of a film's tracks has the tracks of the film that it tells of, and those that are
 /// played at first are among them. The film that opens is over the octets that it was opened from.
 pub fn film_tracks()
-    ensures tracks { (plan : Plan) → IsPlan plan → All (λ b. b < 256) plan.octets → HasTracks plan.tracks (film_for plan) }
+    ensures tracks { (plan : Plan) → IsPlan plan → AreBytes plan.octets → HasTracks plan.tracks (film_for plan) }
     ensures choice { (tracks : List Track) → IsTrackList tracks → is_known (knows tracks) (default_choice_of tracks) ≡ true }
     ensures opens { (octets : List ℕ) (plan : Plan) → opened_film octets ≡ Ok plan → IsPlan plan × (plan.octets ≡ octets) }
 {}

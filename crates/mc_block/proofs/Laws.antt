@@ -1,5 +1,5 @@
 -- What the packets of a block have in common.
-use Rattle.std.proofs.Common.{◌≡◌, ℕ, ◌+◌, ◌-◌, ◌≤◌, ◌==◌, Bool, true, false, ◌&&◌, cond, List, [], ◌∷◌, length, drop, Result, Ok, Err, refl, ap, arith, length-drop, IfOk, map}
+use Rattle.std.proofs.Common.{◌≡◌, ℕ, ◌+◌, ◌^◌, ◌<◌, ◌-◌, ◌≤◌, ◌==◌, Bool, true, false, ◌&&◌, cond, List, [], ◌∷◌, length, drop, Result, Ok, Err, refl, ap, arith, length-drop, IfOk, map}
 use Rattle.std.specs.Prelude.{slice_range, sum_by, All}
 use Rattle.std.specs.List.{range_with_len}
 use Rattle.std.proofs.lemmas.List.{length-take}
@@ -134,6 +134,14 @@ head_rests octets = go (coded_at octets 0) (coded_narrow octets 0)
     go : (r : Result Coded EbmlError) → IfOk r IsNarrow → IfOk (number_of r >>= λ n. behind_track n (drop n.width octets)) (Rests octets)
     go (Err e) h = tt
     go (Ok n) h = behind_rests octets n (drop n.width octets) refl h
+
+pub track_small : (octets : List ℕ) → IfOk (track_of octets) (λ n. n < 2 ^ 56)
+unfolding track_of
+track_small octets = go (coded_at octets 0) (coded_narrow octets 0)
+  where
+    go : (r : Result Coded EbmlError) → IfOk r IsNarrow → IfOk (number_of r >>= λ n. Ok n.value) (λ n. n < 2 ^ 56)
+    go (Err e) h = tt
+    go (Ok n) h = h.1
 
 -- whatever the octets are
 pub packets_are_of_block : (place : Place) (body : BlockBody) → IfOk (packets_of place body) (AreOfBlock place body.octets)

@@ -1,5 +1,5 @@
 -- The packets of a block (RFC 9559, sections 10.1 to 10.3).
-use Rattle.std.specs.Prelude.{◌≡◌, ℕ, ◌+◌, ◌*◌, ◌^◌, Bool, not, ◌&&◌, nat_lt, nat_le, ◌==◌, if◌then◌else◌, List, [], ◌∷◌, length, drop, slice_range, map, sum_by, All, IsTrue, ◌≤◌, Option, Some, None, option_map, unwrap_or, Result, Ok, Err, ℤ, pos, neg_ℤ, ◌+ℤ◌, ◌*ℤ◌, int_le}
+use Rattle.std.specs.Prelude.{◌≡◌, ℕ, ◌+◌, ◌*◌, ◌^◌, ◌<◌, Bool, not, ◌&&◌, nat_lt, nat_le, ◌==◌, if◌then◌else◌, List, [], ◌∷◌, length, drop, slice_range, map, sum_by, All, IfOk, IsTrue, ◌≤◌, Option, Some, None, option_map, unwrap_or, Result, Ok, Err, ℤ, pos, neg_ℤ, ◌+ℤ◌, ◌*ℤ◌, int_le}
 use Rattle.std.specs.Int.{cast_signed, from_be_bytes, w16}
 use Rattle.std.specs.List.{range_with_len}
 use Rattle.mc_packet.specs.declared.packet.Packet.{Packet}
@@ -145,3 +145,11 @@ pub record AreOfBlock (place : Place) (octets : List ℕ) (packets : List Packet
   pub times : All (λ (p : Packet). IsTrue (in_range p.time)) packets
   pub payloads : sum_by (λ (p : Packet). length p.body) packets ≤ length octets
   pub room : (n : ℕ) → track_of octets ≡ Ok n → coded_width n + 3 + sum_by (λ (p : Packet). length p.body) packets ≤ length octets
+
+-- the packets of any block are so
+abbrev pub PacketsAreOfBlocks : Type 0
+PacketsAreOfBlocks = (place : Place) (body : BlockBody) → IfOk (packets_of place body) (AreOfBlock place body.octets)
+
+-- the track number of any block can be written
+abbrev pub NumbersAreSmall : Type 0
+NumbersAreSmall = (octets : List ℕ) → IfOk (track_of octets) (λ n. n < 2 ^ 56)

@@ -1,4 +1,5 @@
-//! A law about what is written, for a crate that writes a film and proves how it is read.
+//! Laws about blocks, for a crate that writes a film and proves how it is read.
+ghost use Rattle.mc_block.specs.Block.{NumbersAreSmall, PacketsAreOfBlocks};
 ghost use Rattle.mc_block.specs.Written.{PlainBlocksReadBack};
 
 use mc_ebml::written_parts;
@@ -10,3 +11,10 @@ pub fn plain_blocks()
 {
     written_parts()
 }
+
+/// The packets of any block, whatever its octets are, have its track and place in common, and room
+/// to be written as blocks again.
+pub fn packets_of_blocks()
+    ensures packets { PacketsAreOfBlocks }
+    ensures numbers { NumbersAreSmall }
+{}

@@ -18,7 +18,7 @@ pub use body::{block_head, block_track, simple_body};
 pub use error::BlockError;
 pub use group::group_body;
 pub use lace::{frames, is_laced};
-pub use law::plain_blocks;
+pub use law::{packets_of_blocks, plain_blocks};
 pub use packets::{block_packets, parse_block, parse_group};
 pub use parts::{BlockBody, BlockHead, FrameSpans, Place};
 pub use times::frame_time;

@@ -1,13 +1,10 @@
 -- The first 12 octets of a SimpleBlock tell its packet, or its first fault.
-use Rattle.std.proofs.Common.{◌≡◌, ℕ, zero, suc, ◌+◌, ◌-◌, ◌<◌, ◌≤◌, Bool, true, false, List, [], ◌∷◌, length, take, drop, Option, Some, None, Result, Ok, Err, refl, sym, ap, ◌∙◌, arith, length-take, lit≤}
-use Rattle.std.specs.Prelude.{IfOk, nat_lt, nat_le, ◌==◌, if◌then◌else◌, ⊤}
-use Rattle.std.proofs.lemmas.Bool.{cond_both, leb-true}
+use Rattle.std.proofs.Common.{◌≡◌, ℕ, zero, suc, ◌+◌, ◌-◌, ◌≤◌, Bool, true, false, List, [], ◌∷◌, length, take, drop, Option, Some, None, Result, Ok, Err, refl, sym, ap, ◌∙◌, arith, length-take, lit≤}
+use Rattle.std.specs.Prelude.{IfOk, nat_lt, ◌==◌, ⊤}
+use Rattle.std.proofs.lemmas.Bool.{cond_both}
 use Rattle.std.proofs.lemmas.Bool.Decides.{nat_tests}
 use Rattle.std.proofs.lemmas.List.{drop-take}
 use Rattle.byteorder.specs.Numbers.{big_from-take}
-use Rattle.mc_packet.specs.declared.packet.Packet.{Packet}
-use Rattle.mc_packet.specs.declared.walk.Fault.{Fault}
-use Rattle.mc_packet.specs.declared.walk.Fault.TheVariants as faults
 use Rattle.mc_ebml.specs.declared.read.Coded.{Coded}
 use Rattle.mc_ebml.specs.declared.read.EbmlError.{EbmlError}
 use Rattle.mc_ebml.specs.Element.{width, coded_from, coded_at}
@@ -16,11 +13,10 @@ use Rattle.mc_block.specs.declared.error.BlockError.TheVariants.{ShortBlock}
 use Rattle.mc_block.specs.declared.parts.Place.{Place}
 use Rattle.mc_block.specs.declared.parts.BlockHead.{BlockHead}
 use Rattle.mc_block.specs.declared.parts.BlockBody.{BlockBody}
-use Rattle.mc_block.specs.Frames.{is_laced, frames_of}
-use Rattle.mc_block.specs.Block.{◌>>=◌, number_of, track_of, behind_track, head_of, frame_time, in_range, time_of, is_key, packet_of, packets_from, packets_behind, packets_of}
+use Rattle.mc_block.specs.Frames.{is_laced}
+use Rattle.mc_block.specs.Block.{◌>>=◌, number_of, track_of, behind_track, head_of, frame_time, in_range, is_key, packets_from, packets_behind, packets_of}
 use Rattle.mc_block.proofs.Laces.{single_frame}
 use Rattle.mc_tracks.specs.declared.track.Track.{Track}
-use Rattle.mc_walk.specs.declared.front.Glance.{Glance}
 use Rattle.mc_walk.specs.declared.movement.Role.TheVariants as roles
 use Rattle.mc_walk.specs.Blocks.{faulted, known_track, timed, tracked, some_opened, block_element_of}
 use Rattle.mc_walk.specs.Glances.{marked, unless_laced, headed_glance, timed_glance, tracked_glance, numbered_glance, glance_of, Tells}

@@ -1,7 +1,7 @@
 -- The packets of one block element stand at its offset, in the order of their lanes.
 use Rattle.std.proofs.Common.{◌≡◌, ℕ, ◌+◌, ◌≤◌, Bool, List, [], ◌∷◌, Result, Ok, Err, refl, inr, arith}
 use Rattle.std.proofs.lemmas.Bool.{cond_both}
-use Rattle.std.specs.Prelude.{IfOk, drop, slice_range}
+use Rattle.std.specs.Prelude.{IfOk, drop}
 use Rattle.std.specs.List.{AllByRecursion}
 use Rattle.mc_packet.specs.declared.packet.Packet.{Packet}
 use Rattle.mc_block.specs.declared.error.BlockError.{BlockError}
@@ -9,7 +9,7 @@ use Rattle.mc_block.specs.declared.parts.Place.{Place}
 use Rattle.mc_block.specs.declared.parts.BlockHead.{BlockHead}
 use Rattle.mc_block.specs.declared.parts.BlockBody.{BlockBody}
 use Rattle.mc_block.specs.Frames.{frames_of}
-use Rattle.mc_block.specs.Block.{head_of, frame_time, in_range, is_key, packet_of, packets_from, packets_behind, packets_of}
+use Rattle.mc_block.specs.Block.{head_of, frame_time, in_range, is_key, packets_from, packets_of}
 use Rattle.mc_block.specs.Block.{◌>>=◌ as ◌and_then◌}
 use Rattle.mc_packet.specs.Shape.{StandsBefore, InOrder}
 

@@ -7,3 +7,5 @@ pub mod Marks
 pub mod Glancing
 pub mod Shaped
 pub mod Opened
+pub mod Again
+pub mod Headed

@@ -1,6 +1,6 @@
 -- The place of a block element, with the level that its Cluster has there, is a mark from which that block element is read.
-use Rattle.std.proofs.Common.{◌≡◌, ℕ, zero, suc, ◌+◌, ◌-◌, ◌<◌, ◌≤◌, List, [], ◌∷◌, length, Option, Some, None, Result, Ok, Err, refl, sym, ap, ◌∙◌, subst, arith}
-use Rattle.std.specs.Prelude.{⊤, ◌||◌, ◌==◌, nat_lt, slice_range, if◌then◌else◌}
+use Rattle.std.proofs.Common.{◌≡◌, ℕ, zero, suc, ◌+◌, ◌<◌, ◌≤◌, List, ◌∷◌, length, Some, None, Result, Ok, Err, refl, sym, ap, ◌∙◌, subst, arith}
+use Rattle.std.specs.Prelude.{⊤, ◌||◌, ◌==◌, nat_lt, slice_range}
 use Rattle.std.proofs.lemmas.Bool.{cond_both}
 use Rattle.mc_packet.specs.declared.packet.Packet.{Packet}
 use Rattle.mc_packet.specs.declared.walk.Fault.{Fault}
@@ -22,12 +22,10 @@ use Rattle.mc_walk.specs.Blocks.{block_element_of}
 use Rattle.mc_walk.specs.Moves.{settle, reenter, is_segment_child, level_end, runs_past, role_of, opens_cluster, move_in}
 use Rattle.mc_walk.specs.Walk.{stands_at, stamped, blocked, time_of, passed, moved, headed, step_at, steps}
 use Rattle.mc_walk.specs.Frames.{Comes, BlockElement}
-use Rattle.mc_walk.specs.Frames.Comes.{here, onward}
-use Rattle.mc_walk.specs.Parts.{mark, Part, part, part_after, part_at, place_of, level_of, opening_mark, IsMark}
+use Rattle.mc_walk.specs.Frames.Comes.{here}
+use Rattle.mc_walk.specs.Parts.{mark, Part, part, part_after, part_at, place_of, level_of, IsMark}
 use Rattle.mc_walk.specs.Parts.IsMark.{at_opening, at_end, at_block}
-use Rattle.mc_walk.proofs.Rising.{step-rises}
-use Rattle.mc_walk.proofs.Enough.{part-to}
-use Rattle.mc_walk.proofs.Joining.{place-of, level-of, comes-within, mark-lies}
+use Rattle.mc_walk.proofs.Joining.{place-of, level-of, comes-within}
 use Rattle.mc_walk.proofs.Framing.{Framed, step-framed, comes-further}
 
 -- ---- a block element changes no level

@@ -13,20 +13,20 @@ use Rattle.mc_tracks.specs.declared.children.Master.TheVariants.{EbmlHeader}
 use Rattle.mc_tracks.specs.Answer.{◌>>=◌}
 use Rattle.mc_tracks.specs.Children.{known_element, whole_element, element_at, children_of}
 use Rattle.mc_tracks.specs.Header.{body_of, as_header, header_checked, ebml_header_of}
-use Rattle.mc_tracks.specs.Ids.{EBML_HEADER, SEGMENT}
+use Rattle.mc_ebml.specs.Ids.{EBML_HEADER, SEGMENT}
 use Rattle.mc_walk.specs.declared.plan.Plan.{Plan}
 use Rattle.mc_walk.specs.declared.plan.Segment.{Segment}
 use Rattle.mc_walk.specs.Opening.{skipped, segment_or, segment_from, segment_of, header_of, plan_of, opened_film}
 use Rattle.mc_walk.proofs.Rising.{head-lies}
 
-if_ok-then : {X Y : Type 0} (P : X → Type 0) (Q : Y → Type 0) (r : Result X Refused) (f : X → Result Y Refused) → IfOk r P → ((x : X) → P x → IfOk (f x) Q) → IfOk (r >>= f) Q
+pub if_ok-then : {X Y : Type 0} (P : X → Type 0) (Q : Y → Type 0) (r : Result X Refused) (f : X → Result Y Refused) → IfOk r P → ((x : X) → P x → IfOk (f x) Q) → IfOk (r >>= f) Q
 if_ok-then P Q (Ok x) f h each = each x h
 if_ok-then P Q (Err e) f h each = tt
 
-abbrev Any : {X : Type 0} → X → Type 0
+abbrev pub Any : {X : Type 0} → X → Type 0
 Any x = Unit {0}
 
-any : {X : Type 0} (r : Result X Refused) → IfOk r Any
+pub any : {X : Type 0} (r : Result X Refused) → IfOk r Any
 any (Ok x) = tt
 any (Err e) = tt
 

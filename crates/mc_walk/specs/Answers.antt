@@ -1,4 +1,4 @@
--- Role a call answers, beside the value of a definition.
+-- What a call answers, beside the value of a definition.
 use Rattle.std.specs.Prelude.{◌≡◌, Result, Ok, Err, ⊤}
 use Rattle.mc_packet.specs.declared.walk.Fault.{Fault}
 use Rattle.mc_packet.specs.declared.walk.Fault.TheVariants as faults

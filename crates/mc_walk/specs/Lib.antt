@@ -6,3 +6,4 @@ pub mod Walk
 pub mod Opening
 pub mod Parts
 pub mod Frames
+pub mod Again

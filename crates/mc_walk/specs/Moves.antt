@@ -1,4 +1,4 @@
--- Role the head of an element asks of the walk, and how the walk ends at the film's or the Segment's end.
+-- What the head of an element asks of the walk, and how the walk ends at the film's or the Segment's end.
 use Rattle.std.specs.Prelude.{◌≡◌, ℕ, ◌+◌, ◌<◌, ◌≤◌, Bool, true, false, ◌&&◌, ◌||◌, nat_lt, ◌==◌, if◌then◌else◌, Option, Some, None, ⊤}
 use Rattle.mc_packet.specs.declared.walk.Fault.TheVariants.{NoSize, Overrun}
 use Rattle.mc_packet.specs.declared.walk.Ending.{Ending}
@@ -7,7 +7,7 @@ use Rattle.mc_packet.specs.declared.walk.Level.{Level}
 use Rattle.mc_packet.specs.declared.walk.Level.TheVariants as levels
 use Rattle.mc_ebml.specs.declared.read.Size.{Size}
 use Rattle.mc_ebml.specs.declared.read.Size.TheVariants.{Known, Unknown}
-use Rattle.mc_tracks.specs.Ids.{SEEK_HEAD, INFO, TRACKS, CLUSTER, CUES, CHAPTERS, TAGS, ATTACHMENTS, TIMESTAMP, SIMPLE_BLOCK, BLOCK_GROUP}
+use Rattle.mc_ebml.specs.Ids.{SEEK_HEAD, INFO, TRACKS, CLUSTER, CUES, CHAPTERS, TAGS, ATTACHMENTS, TIMESTAMP, SIMPLE_BLOCK, BLOCK_GROUP}
 use Rattle.mc_walk.specs.declared.movement.Role.{Role}
 use Rattle.mc_walk.specs.declared.movement.Role.TheVariants as roles
 use Rattle.mc_walk.specs.declared.movement.Move.{Move}

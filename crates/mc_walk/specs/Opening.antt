@@ -12,7 +12,7 @@ use Rattle.mc_tracks.specs.declared.track.Track.{Track}
 use Rattle.mc_tracks.specs.Answer.{◌>>=◌}
 use Rattle.mc_tracks.specs.Children.{element_at, first}
 use Rattle.mc_tracks.specs.Header.{body_of, ebml_header_of, info_of, tracks_of}
-use Rattle.mc_tracks.specs.Ids.{SEGMENT, CLUSTER, INFO, TRACKS}
+use Rattle.mc_ebml.specs.Ids.{SEGMENT, CLUSTER, INFO, TRACKS}
 use Rattle.mc_walk.specs.declared.plan.Plan.{Plan}
 use Rattle.mc_walk.specs.declared.plan.Segment.{Segment}
 use Rattle.mc_walk.specs.declared.plan.Header.{Header}

@@ -19,6 +19,7 @@ use std::alloc::{AllocError, Global};
 pub enum WalkError {
     /// The film is damaged there.
     Fault(Fault),
+    /// Memory was wanting.
     NoMemory,
 }
 
@@ -82,7 +83,8 @@ fn timed_packets(
     duration: Option<u64>,
 ) -> Result<Packets, WalkError>
     ensures value { Gives result (timed place scale time body.now duration) }
-    ensures law { (n : ℕ) → track_of body.now.octets ≡ Ok n → 0 < n → n < 2 ^ 56 → length body.now.octets ≤ 67108864 → IfOk result (AreBetween place (place + 1)) }
+    ensures law { (n : ℕ) → track_of body.now.octets ≡ Ok n → 0 < n → n < 2 ^ 56
+        → length body.now.octets ≤ 67108864 → IfOk result (AreBetween place (place + 1)) }
 {
     let Some(cluster_time) = time else {
         return Err(WalkError::Fault(Fault::NoTime));
@@ -106,7 +108,8 @@ fn known_packets(
     body: &BlockBody,
 ) -> Result<Packets, WalkError>
     ensures value { Gives result (some_opened tracks.now place scale time body.now) }
-    ensures law { IsTrackList tracks.now → length body.now.octets ≤ 67108864 → IfOk result (AreBetween place (place + 1)) }
+    ensures law { IsTrackList tracks.now → length body.now.octets ≤ 67108864
+        → IfOk result (AreBetween place (place + 1)) }
 {
     let no = block_track(body.octets.as_slice())?;
     match find_known(tracks, no) {
@@ -120,8 +123,8 @@ fn known_packets(
 ///
 /// The faults come in this order: `TooLarge`, `BadGroup`, `ShortBlock` at the track number; a
 /// block of a track that is not listed, or encoded, gives no packets; then `NoTime`,
-/// `ShortBlock`, `BadLace`, `TimeRange`. Whatever the octets are, the packets are at most 256 of one
-/// track, at this place and in order, with payloads of at most 67,108,864 octets together.
+/// `ShortBlock`, `BadLace`, `TimeRange`. Whatever the octets are, the packets are at most 256 of
+/// one track, at this place and in order, with payloads of at most 67,108,864 octets together.
 #[tactic(auto, unfolding(crate::specs::Blocks::block_element_of))]
 pub fn block_element(
     alloc: Global,

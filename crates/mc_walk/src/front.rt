@@ -9,13 +9,16 @@ use mc_block::{BlockHead, Place, block_head, block_track, frame_time, is_laced};
 use mc_packet::{Fault, TrackNo};
 use mc_tracks::TrackList;
 
-/// The first packet of a block element without its payload: its track, the file offset of its
-/// element, its time in nanoseconds, and whether its block is marked as a keyframe.
+/// The first packet of a block element without its payload.
 #[derive(Clone, Copy, Debug, PartialEq, Eq)]
 pub struct BlockMark {
+    /// The TrackNumber of its track.
     pub track: TrackNo,
+    /// The offset of the element, in octets from the file's start.
     pub pos: u64,
+    /// The time of the first frame, in nanoseconds.
     pub time: i64,
+    /// Whether the block is marked as a keyframe, so that decoding can start at its first frame.
     pub key: bool,
 }
 
@@ -87,7 +90,8 @@ pub fn simple_glance(
     front: &[u8],
 ) -> Glance
     ensures value { result ≡ glance_of tracks.now scale place time front.now }
-    ensures law { (body : List ℕ) → length body ≤ 67108864 → front.now ≡ take 12 body → Tells result (marked (block_element_of tracks.now scale place time SimpleBlock body)) }
+    ensures law { (body : List ℕ) → length body ≤ 67108864 → front.now ≡ take 12 body
+        → Tells result (marked (block_element_of tracks.now scale place time SimpleBlock body)) }
 {
     glance_by_number(tracks, scale, place, time, front)
 }

@@ -9,10 +9,14 @@
 
 mod element;
 mod front;
+mod law;
 mod movement;
+mod opening;
 mod plan;
 
 pub use element::{WalkError, block_element};
 pub use front::{BlockMark, Glance, simple_glance};
+pub use law::{opened_films, walked_packets};
 pub use movement::{Move, Role, last_ending, move_at, settled};
+pub use opening::{body_end, child_before_cluster, cluster_time};
 pub use plan::{Header, Plan, Segment, Step};

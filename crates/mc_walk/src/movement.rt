@@ -3,7 +3,7 @@ ghost use Rattle.mc_ebml.specs.declared.read.Size.TheVariants.{Known, Unknown};
 ghost use Rattle.mc_ebml.specs.Element.{IsSmall};
 ghost use Rattle.mc_walk.specs.Moves.{settle, reenter, level_end, runs_past, is_segment, is_segment_child, role_of, cuts_off, last_of, opens_cluster, move_in, move_of, MovesOn};
 
-use mc_ebml::Size;
+use mc_ebml::{Size, ids};
 use mc_packet::{Ending, Fault, Level};
 
 /// What an element in a Cluster is to the walk; in the Segment every element is `Other`.
@@ -13,7 +13,9 @@ pub enum Role {
     Other,
     /// It sets the Cluster's time.
     Timestamp,
+    /// It gives packets (RFC 9559, section 5.1.3.4).
     SimpleBlock,
+    /// Its first Block gives packets (RFC 9559, section 5.1.3.5).
     BlockGroup,
 }
 
@@ -24,26 +26,23 @@ pub enum Move {
     Fault(Fault),
     /// A Cluster is entered: the walk goes on at its first child.
     Enter {
+        /// The offset of the first child.
         to: u64,
+        /// The level there.
         level: Level,
     },
-    /// An element whose body stands from `at` up to `stop` has to lie in the film; the walk then
-    /// goes on behind it.
+    /// An element has to lie in the film; the walk then goes on behind it.
     Pass {
+        /// What it is to the walk.
         role: Role,
+        /// The offset at which its body begins.
         at: u64,
+        /// The offset at which it ends.
         stop: u64,
+        /// The level behind it.
         level: Level,
     },
 }
-
-const CLUSTER: u32 = 0x1F43_B675;
-
-const TIMESTAMP: u32 = 0xE7;
-
-const SIMPLE_BLOCK: u32 = 0xA3;
-
-const BLOCK_GROUP: u32 = 0xA0;
 
 /// The level at a place: a Cluster of known size is left at its end.
 pub fn settled(level: Level, place: u64) -> Level
@@ -61,14 +60,14 @@ fn is_child_of_segment(id: u32) -> bool
 {
     matches!(
         id,
-        CLUSTER
-            | 0x114D_9B74
-            | 0x1549_A966
-            | 0x1654_AE6B
-            | 0x1C53_BB6B
-            | 0x1043_A770
-            | 0x1254_C367
-            | 0x1941_A469
+        ids::CLUSTER
+            | ids::SEEK_HEAD
+            | ids::INFO
+            | ids::TRACKS
+            | ids::CUES
+            | ids::CHAPTERS
+            | ids::TAGS
+            | ids::ATTACHMENTS
     )
 }
 
@@ -127,9 +126,9 @@ fn child_role(level: Level, id: u32) -> Role
     match level {
         Level::Segment => Role::Other,
         Level::Cluster { .. } => match id {
-            TIMESTAMP => Role::Timestamp,
-            SIMPLE_BLOCK => Role::SimpleBlock,
-            BLOCK_GROUP => Role::BlockGroup,
+            ids::TIMESTAMP => Role::Timestamp,
+            ids::SIMPLE_BLOCK => Role::SimpleBlock,
+            ids::BLOCK_GROUP => Role::BlockGroup,
             _ => Role::Other,
         },
     }
@@ -138,7 +137,7 @@ fn child_role(level: Level, id: u32) -> Role
 fn opens(level: Level, id: u32) -> bool
     ensures { result ≡ opens_cluster level id }
 {
-    id == CLUSTER && level == Level::Segment
+    id == ids::CLUSTER && level == Level::Segment
 }
 
 // An element of unknown size, whose body begins at `at`.

@@ -1,5 +1,4 @@
-use mc_packet::Kind;
-use rows::{Json, RowError, number_in, text_in};
+use rows::{Json, RowError, number_in};
 use std::alloc::AllocError;
 use std::fmt::Write;
 
@@ -18,25 +17,6 @@ pub fn some_in(argument: &Json<'_>) -> Result<Option<u64>, RowError> {
     match natural_in(argument)? {
         0 => Ok(None),
         number => Ok(Some(number)),
-    }
-}
-
-/// A kind of track by its name.
-pub fn kind_in(argument: &Json<'_>) -> Result<Kind, RowError> {
-    match text_in(argument)? {
-        "video" => Ok(Kind::Video),
-        "audio" => Ok(Kind::Audio),
-        "sub" => Ok(Kind::Sub),
-        _ => Err(RowError::BadRow),
-    }
-}
-
-/// The name of a kind of track.
-pub fn kind_name(kind: Kind) -> &'static str {
-    match kind {
-        Kind::Video => "video",
-        Kind::Audio => "audio",
-        Kind::Sub => "sub",
     }
 }
 

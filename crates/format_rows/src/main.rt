@@ -1,14 +1,11 @@
-//! Makes the calls of `mc_packet`, `mc_ebml`, `mc_block` and `mc_tracks` that its rows name, and
-//! prints what each answered. The rows stand in `stdin`, and what they must answer in `stdout`.
-//! Octets are texts of hex digits, and a number 0 in place of a track stands for none.
+//! Makes the calls of `mc_packet` and `mc_ebml` that its rows name, and prints what each answered.
+//! The rows stand in `stdin`, and what they must answer in `stdout`. Octets are texts of hex digits, and a number 0 in place of a track stands for none.
 #![tactic(auto)]
 
 mod arguments;
-mod blocks;
 mod elements;
 mod packets;
 mod table;
-mod tracks;
 mod writing;
 
 use rows::play;

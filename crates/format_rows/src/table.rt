@@ -1,15 +1,12 @@
-use crate::blocks::{call_block, call_block_head, call_block_track, call_frames, call_group};
 use crate::elements::{call_coded, call_head, call_id, call_size, call_text, call_uint};
 use crate::packets::{call_choice, call_chunk, call_packet, call_starts, call_sum, call_view};
-use crate::tracks::{call_ebml_header, call_info, call_known, call_of_kind, call_tracks};
 use crate::writing::{
-    call_write_block, call_write_coded, call_write_element, call_write_head, call_write_text,
-    call_write_uint,
+    call_write_coded, call_write_element, call_write_head, call_write_text, call_write_uint,
 };
 use rows::{Json, RowError, Table, named};
 use std::alloc::Global;
 
-/// The calls of the four crates.
+/// The calls of the two crates.
 #[derive(Drop)]
 pub struct FormatTable;
 
@@ -44,20 +41,9 @@ enum Word {
     WriteText,
     WriteCoded,
     WriteElement,
-    WriteBlock,
-    Frames,
-    Block,
-    Group,
-    BlockTrack,
-    BlockHead,
-    EbmlHeader,
-    Info,
-    Tracks,
-    Known,
-    OfKind,
 }
 
-const WORDS: [(&str, Word); 28] = [
+const WORDS: [(&str, Word); 17] = [
     ("sum", Word::Sum),
     ("packet", Word::Packet),
     ("chunk", Word::Chunk),
@@ -75,17 +61,6 @@ const WORDS: [(&str, Word); 28] = [
     ("write_text", Word::WriteText),
     ("write_coded", Word::WriteCoded),
     ("write_element", Word::WriteElement),
-    ("write_block", Word::WriteBlock),
-    ("frames", Word::Frames),
-    ("block", Word::Block),
-    ("group", Word::Group),
-    ("block_track", Word::BlockTrack),
-    ("block_head", Word::BlockHead),
-    ("ebml_header", Word::EbmlHeader),
-    ("info", Word::Info),
-    ("tracks", Word::Tracks),
-    ("known", Word::Known),
-    ("of_kind", Word::OfKind),
 ];
 
 fn answer(
@@ -112,16 +87,5 @@ fn answer(
         Word::WriteText => call_write_text(alloc, arguments, out),
         Word::WriteCoded => call_write_coded(alloc, arguments, out),
         Word::WriteElement => call_write_element(alloc, arguments, out),
-        Word::WriteBlock => call_write_block(alloc, arguments, out),
-        Word::Frames => call_frames(alloc, arguments, out),
-        Word::Block => call_block(alloc, arguments, out),
-        Word::Group => call_group(alloc, arguments, out),
-        Word::BlockTrack => call_block_track(alloc, arguments, out),
-        Word::BlockHead => call_block_head(alloc, arguments, out),
-        Word::EbmlHeader => call_ebml_header(alloc, arguments, out),
-        Word::Info => call_info(alloc, arguments, out),
-        Word::Tracks => call_tracks(alloc, arguments, out),
-        Word::Known => call_known(alloc, arguments, out),
-        Word::OfKind => call_of_kind(alloc, arguments, out),
     }
 }

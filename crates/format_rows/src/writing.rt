@@ -2,9 +2,8 @@ ghost use Rattle.std.specs.Prelude.{◌≡◌};
 ghost use Rattle.mc_ebml.specs.Written.{is_id, has_no_zero};
 
 use crate::arguments::{natural_in, push_octets};
-use mc_block::write_simple_block;
 use mc_ebml::{Size, write_coded, write_element, write_head, write_text, write_uint};
-use rows::{Json, RowError, flag_in, number_in, octets_in, one, text_in, two};
+use rows::{Json, RowError, number_in, octets_in, one, text_in, two};
 use std::alloc::Global;
 
 // The numbers that are coded have at most so many bits.
@@ -106,26 +105,5 @@ pub fn call_write_element(
     }
     let mut octets = Vec::new(alloc);
     write_element(&mut octets, id, body.as_slice())?;
-    Ok(push_octets(out, octets.as_slice())?)
-}
-
-/// A SimpleBlock of one frame.
-pub fn call_write_block(
-    alloc: Global,
-    arguments: &[Json<'_>],
-    out: &mut String,
-) -> Result<(), RowError> {
-    let [track, relative, key, body] = arguments else {
-        return Err(RowError::BadRow);
-    };
-    let track = natural_in(track)?;
-    let relative = i16::try_from(number_in(relative)?)?;
-    let key = flag_in(key)?;
-    let body = octets_in(alloc, body)?;
-    if track >= CODED || body.len() > 67_108_864 {
-        return Err(RowError::BadRow);
-    }
-    let mut octets = Vec::new(alloc);
-    write_simple_block(&mut octets, track, relative, key, body.as_slice())?;
     Ok(push_octets(out, octets.as_slice())?)
 }

@@ -1,11 +1,10 @@
-use crate::arguments::some_in;
-use crate::packets::push_packet;
 use bytes::Bytes;
 use mc_block::{
     BlockError, Place, block_head, block_track, frames, group_body, parse_block, parse_group,
+    write_simple_block,
 };
-use mc_packet::Packets;
-use rows::{Json, RowError, number_in, octets_in, one, two};
+use mc_packet::{LARGEST_BLOCK, Packet, Packets};
+use rows::{Json, RowError, flag_in, number_in, octets_in, one, two};
 use std::alloc::Global;
 use std::fmt::Write;
 
@@ -70,10 +69,30 @@ fn push_all(packets: &Packets, out: &mut String) -> Result<(), RowError> {
     Ok(())
 }
 
-/// The packets of a SimpleBlock, of whose track a frame lasts so many nanoseconds.
+// A packet's track, lane and time, its marks, and the length of its payload.
+fn push_packet(packet: &Packet, out: &mut String) -> Result<(), RowError> {
+    write!(
+        out,
+        "{}.{} at {} ",
+        packet.track, packet.pos.lane, packet.time
+    )?;
+    if packet.sync {
+        out.push_str("sync ")?;
+    }
+    if packet.key {
+        out.push_str("key ")?;
+    }
+    Ok(write!(out, "{}", packet.octets().len())?)
+}
+
+/// The packets of a SimpleBlock, of whose track a frame lasts so many nanoseconds; with 0 that is
+/// not known.
 pub fn call_block(alloc: Global, arguments: &[Json<'_>], out: &mut String) -> Result<(), RowError> {
     let (duration, body) = two(arguments)?;
-    let duration = some_in(duration)?;
+    let duration = match u64::try_from(number_in(duration)?)? {
+        0 => None,
+        duration => Some(duration),
+    };
     let octets = octets_in(alloc, body)?;
     let body = Bytes::copy_from_slice(alloc, octets.as_slice())?;
     push_packets(parse_block(alloc, &body, place(duration)), out)
@@ -116,4 +135,28 @@ pub fn call_block_head(
         }
         Err(error) => push_error(error, out),
     }
+}
+
+/// A SimpleBlock of one frame.
+pub fn call_write_block(
+    alloc: Global,
+    arguments: &[Json<'_>],
+    out: &mut String,
+) -> Result<(), RowError> {
+    let [track, relative, key, body] = arguments else {
+        return Err(RowError::BadRow);
+    };
+    let track = u64::try_from(number_in(track)?)?;
+    let relative = i16::try_from(number_in(relative)?)?;
+    let key = flag_in(key)?;
+    let body = octets_in(alloc, body)?;
+    if track >= 1 << 56 || body.len() as u64 > LARGEST_BLOCK {
+        return Err(RowError::BadRow);
+    }
+    let mut octets = Vec::new(alloc);
+    write_simple_block(&mut octets, track, relative, key, body.as_slice())?;
+    for octet in octets.as_slice() {
+        write!(out, "{octet:02x}")?;
+    }
+    Ok(())
 }

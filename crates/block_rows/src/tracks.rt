@@ -1,9 +1,9 @@
-use crate::arguments::{kind_in, kind_name, natural_in, push_some};
+use mc_packet::{Kind, TrackNo};
 use mc_tracks::{
     Refused, Track, TrackList, TracksError, default_choice, parse_ebml_header, parse_info,
     parse_tracks,
 };
-use rows::{Json, RowError, number_in, octets_in, one, push_flag, three, two};
+use rows::{Json, RowError, number_in, octets_in, one, push_flag, text_in, three, two};
 use std::alloc::Global;
 use std::fmt::Write;
 
@@ -74,18 +74,42 @@ fn push_list(list: &TrackList, out: &mut String) -> Result<(), RowError> {
         out.push(',')?;
     }
     let choice = default_choice(list);
-    out.push_str(" plays ")?;
-    push_some(out, choice.video)?;
-    out.push(' ')?;
-    push_some(out, choice.audio)?;
-    out.push(' ')?;
-    Ok(push_some(out, choice.sub)?)
+    out.push_str(" plays")?;
+    push_chosen(choice.video, out)?;
+    push_chosen(choice.audio, out)?;
+    push_chosen(choice.sub, out)
+}
+
+fn push_chosen(track: Option<TrackNo>, out: &mut String) -> Result<(), RowError> {
+    match track {
+        Some(track) => Ok(write!(out, " {track}")?),
+        None => Ok(out.push_str(" none")?),
+    }
 }
 
 fn push_track(track: &Track, out: &mut String) -> Result<(), RowError> {
     let (codec, language) = (track.codec.as_str(), track.language.as_str());
     write!(out, "{} {} ", track.no, kind_name(track.kind))?;
     Ok(write!(out, "{codec} {language}")?)
+}
+
+// A kind of track by its name.
+fn kind_in(argument: &Json<'_>) -> Result<Kind, RowError> {
+    match text_in(argument)? {
+        "video" => Ok(Kind::Video),
+        "audio" => Ok(Kind::Audio),
+        "sub" => Ok(Kind::Sub),
+        _ => Err(RowError::BadRow),
+    }
+}
+
+// The name of a kind of track.
+fn kind_name(kind: Kind) -> &'static str {
+    match kind {
+        Kind::Video => "video",
+        Kind::Audio => "audio",
+        Kind::Sub => "sub",
+    }
 }
 
 // The list of a row's Tracks, which is one that is read.
@@ -101,7 +125,7 @@ fn list_in(alloc: Global, argument: &Json<'_>) -> Result<TrackList, RowError> {
 /// Whether a number is listed, and whether it is known.
 pub fn call_known(alloc: Global, arguments: &[Json<'_>], out: &mut String) -> Result<(), RowError> {
     let (list, number) = two(arguments)?;
-    let (list, number) = (list_in(alloc, list)?, natural_in(number)?);
+    let (list, number) = (list_in(alloc, list)?, u64::try_from(number_in(number)?)?);
     push_flag(out, list.get(number).is_some())?;
     out.push(' ')?;
     Ok(push_flag(out, list.is_known(number))?)

@@ -17,7 +17,7 @@ use Rattle.mc_block.specs.declared.lace.Lacing.{Lacing}
 use Rattle.mc_block.specs.declared.lace.Lacing.TheVariants.{Single, Xiph, Fixed, Ebml}
 use Rattle.mc_block.specs.declared.lace_reader.LaceReader.{LaceReader}
 use Rattle.mc_block.specs.Frames.{Front, front, ◌then◌, longer, xiph_size, known, sized, first_size, difference, natural, changed, changed_size, next_size, size_in_front, coded_sizes, lace_sizes, spans, fitted, laced, lacing_of, has_lace, is_laced, frames_in, frames_of}
-use Rattle.mc_block.specs.Fronts.{fits, is_good, AreOctets, counted, frames_if}
+use Rattle.mc_block.specs.Fronts.{fits, is_good, ReadsByOctets, counted, frames_if}
 use Rattle.mc_block.proofs.Runs.{Leaves, coded_leaves}
 use Rattle.mc_block.proofs.Heads.{coded_window}
 
@@ -40,18 +40,18 @@ none_wanted lace octets none le = rw none (grind (arith, nat_tests))
 
 -- ---- octets
 
-by_octets : (lacing : Lacing) (before : Option ℕ) (octets : List ℕ) → AreOctets lacing → next_size lacing before octets ≡ xiph_size octets
+by_octets : (lacing : Lacing) (before : Option ℕ) (octets : List ℕ) → ReadsByOctets lacing → next_size lacing before octets ≡ xiph_size octets
 by_octets Single before octets is = refl
 by_octets Xiph before octets is = refl
 by_octets Fixed before octets is = refl
 by_octets Ebml before octets is = absurd is
 
 -- the size before tells nothing then
-any_before : (lacing : Lacing) (n : ℕ) (one other : Option ℕ) (octets : List ℕ) → AreOctets lacing → coded_sizes lacing n one octets ≡ coded_sizes lacing n other octets
+any_before : (lacing : Lacing) (n : ℕ) (one other : Option ℕ) (octets : List ℕ) → ReadsByOctets lacing → coded_sizes lacing n one octets ≡ coded_sizes lacing n other octets
 any_before lacing zero one other octets is = refl
 any_before lacing (suc n) one other octets is = rw (by_octets lacing one octets is, by_octets lacing other octets is) refl
 
-longer_fits : (lacing : Lacing) (n claimed b : ℕ) (size : Front ℕ) → AreOctets lacing
+longer_fits : (lacing : Lacing) (n claimed b : ℕ) (size : Front ℕ) → ReadsByOctets lacing
     → fits claimed (longer b size then (λ size left. size_in_front size (coded_sizes lacing n (Some size) left)))
     ≡ fits (claimed + b) (size then (λ size left. size_in_front size (coded_sizes lacing n (Some size) left)))
 longer_fits lacing n claimed b None is = refl
@@ -63,7 +63,7 @@ longer_fits lacing n claimed b (Some x) is =
 abbrev pub wanted_behind : ℕ → ℕ → ℕ
 wanted_behind b n = if nat_lt b 255 then n - 1 else n
 
-octet_by : (lacing : Lacing) (n claimed b : ℕ) (bs : List ℕ) (before : Option ℕ) (ends : Bool) → nat_lt b 255 ≡ ends → AreOctets lacing
+octet_by : (lacing : Lacing) (n claimed b : ℕ) (bs : List ℕ) (before : Option ℕ) (ends : Bool) → nat_lt b 255 ≡ ends → ReadsByOctets lacing
     → fits claimed (coded_sizes lacing (suc n) before (b ∷ bs)) ≡ fits (claimed + b) (coded_sizes lacing (wanted_behind b (suc n)) before bs)
 octet_by lacing n claimed b bs before true ends is =
     let k : suc n - 1 ≡ n = omega arith in
@@ -71,7 +71,7 @@ octet_by lacing n claimed b bs before true ends is =
 octet_by lacing n claimed b bs before false more is =
     rw (by_octets lacing before (b ∷ bs) is, more, by_octets lacing before bs is) (longer_fits lacing n claimed b (xiph_size bs) is)
 
-pub octet_on : (lacing : Lacing) (wanted claimed b : ℕ) (bs : List ℕ) (before : Option ℕ) → 0 < wanted → AreOctets lacing
+pub octet_on : (lacing : Lacing) (wanted claimed b : ℕ) (bs : List ℕ) (before : Option ℕ) → 0 < wanted → ReadsByOctets lacing
     → fits claimed (coded_sizes lacing wanted before (b ∷ bs)) ≡ fits (claimed + b) (coded_sizes lacing (wanted_behind b wanted) before bs)
 octet_on lacing zero claimed b bs before positive is = absurd (omega arith)
 octet_on lacing (suc n) claimed b bs before positive is = octet_by lacing n claimed b bs before (nat_lt b 255) refl is
@@ -295,7 +295,7 @@ claim_not : (lace : LaceReader) (size left : ℕ) (fit : Bool) → nat_le (lace.
 claim_not lace size left true fit e = absurd (cc e)
 claim_not lace size left false fit e = grind (arith, nat_tests)
 
-pub octet_read : (lace l : LaceReader) (front octets : List ℕ) (b left : ℕ) → 0 < lace.wanted → AreOctets lace.lacing → front ≡ b ∷ drop 1 front → front ≡ take (length front) octets
+pub octet_read : (lace l : LaceReader) (front octets : List ℕ) (b left : ℕ) → 0 < lace.wanted → ReadsByOctets lace.lacing → front ≡ b ∷ drop 1 front → front ≡ take (length front) octets
     → Some l ≡ with_claim lace b left → is_good (record l { wanted = wanted_behind b lace.wanted }) (drop 1 octets) ≡ is_good lace octets
 octet_read lace l front octets b left positive is first cut claim =
     let whole : octets ≡ b ∷ drop 1 octets = begins_with front octets b first cut in
@@ -303,7 +303,7 @@ octet_read lace l front octets b left positive is first cut claim =
     octet_on lace.lacing lace.wanted lace.claimed b (drop 1 octets) lace.before positive is in
     rw (claim_is lace l b left claim) (sym (ap (is_good lace) whole ∙ one))
 
-pub octet_refused : (lace : LaceReader) (front octets : List ℕ) (b left : ℕ) → 0 < lace.wanted → AreOctets lace.lacing → front ≡ b ∷ drop 1 front → front ≡ take (length front) octets
+pub octet_refused : (lace : LaceReader) (front octets : List ℕ) (b left : ℕ) → 0 < lace.wanted → ReadsByOctets lace.lacing → front ≡ b ∷ drop 1 front → front ≡ take (length front) octets
     → length octets ≡ left → None ≡ with_claim lace b (left - 1) → is_good lace octets ≡ false
 octet_refused lace front octets b left positive is first cut long claim =
     let whole : octets ≡ b ∷ drop 1 octets = begins_with front octets b first cut in

@@ -31,9 +31,9 @@ child_by at len (Ok h) = sized len h.id (at + h.body) h.size
 -- ---- the sizes of a lace
 
 -- the sizes of a lace that is not coded by numbers are sums of octets
-abbrev pub AreOctets : Lacing → Type 0
-AreOctets Ebml = ⊥
-AreOctets other = ⊤
+abbrev pub ReadsByOctets : Lacing → Type 0
+ReadsByOctets Ebml = ⊥
+ReadsByOctets other = ⊤
 
 -- whether frames of these sizes fit into what is left behind the sizes, beside so many octets
 abbrev pub fits : ℕ → Front (List ℕ) → Bool

@@ -1,6 +1,6 @@
 ghost use Rattle.std.specs.Prelude.{◌≡◌, ◌+◌, ◌^◌, ◌<◌, ◌≤◌, ℕ, List, length, take, min, true, IfSome, Some, None, unwrap_or, if◌then◌else◌, nat_le, ◌==◌, ◌-◌};
 ghost use Rattle.mc_block.specs.Frames.{is_laced};
-ghost use Rattle.mc_block.specs.Fronts.{is_good, AreOctets, FitsIn, ReadsOn, Begins};
+ghost use Rattle.mc_block.specs.Fronts.{is_good, ReadsByOctets, FitsIn, ReadsOn, Begins};
 
 use crate::lace::{Lacing, lacing_of};
 use crate::sizes::next_size;
@@ -81,7 +81,7 @@ impl LaceReader {
         requires wanted { 0 < self.wanted }
         requires fits { FitsIn left self }
         requires front { (length front.now ≤ left) × (min 8 left ≤ length front.now) }
-        requires lacing { AreOctets self.lacing }
+        requires lacing { ReadsByOctets self.lacing }
         ensures law { (octets : List ℕ) → length octets ≡ left
             → front.now ≡ take (length front.now) octets → ReadsOn self octets result }
         ensures fits { IfSome result (λ x. FitsIn (left - x.1) x.0) }

@@ -74,7 +74,8 @@ impl<'a> Shelf for SliceShelf<'a> {
         ensures bounds { IfOk result (λ n. InBounds pos buf.new n) }
         ensures octets { IfOk result (λ n. Reads (told_in self.old file.0) pos buf.new n) }
         ensures cause { HasCause 0 0 result }
-        ensures kept { OnlyReadsTo tells opened_by reach_of self.old self.new (pos + length buf.old) }
+        ensures kept { OnlyReadsTo tells opened_by reach_of self.old self.new
+            (pos + length buf.old) }
         ensures count { result
             ≡ Ok (length (part_of (told_in self.old file.0) pos (length buf.old))) }
         ensures name { name_of self.new ≡ name_of self.old }

@@ -48,12 +48,19 @@ pub struct Joins {
 /// which readers are served, and at most nine others, in order of last use, each with packets.
 #[derive(Drop)]
 pub struct Cache {
+    // Both written by `new` alone.
     alloc: Global,
     limits: Limits,
+    // The current range: `start_range` and `choose` put one, `leave_current` takes it away; feeding,
+    // joining, pruning and selecting change it in place.
     current: Option<Range>,
+    // The others in order of last use: what leaves goes to the front, what is chosen or joined goes
+    // out, and pruning drops the last one.
     others: Vec<Range>,
+    // Room for what a start and a join tell, made by the calls that make room and used up by them.
     start_drops: Vec<Removal>,
     join_drops: Vec<Removal>,
+    // The range with room that `make_room_to_start` holds ready, until `start_range` takes it.
     prepared: Option<Prepared>,
 }
 

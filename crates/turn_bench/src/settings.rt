@@ -19,9 +19,16 @@ pub struct Settings {
 }
 
 impl Model for Settings {
+    ghost use Rattle.std.specs.Prelude.{List};
+    ghost use Rattle.std.specs.Coded.{codes};
+    ghost use Rattle.mc_value.specs.contracts.value.Value as value;
+    ghost use Rattle.turn_bench.specs.declared.setting.Setting.{Setting};
+
     ghost Value = { List Setting };
 
     ghost view = { λ s. s.list.items };
+
+    ghost coded = { Prim.hlevel (codes, value.the_row.coded) };
 }
 
 impl Kept for Settings {

@@ -1,4 +1,4 @@
-use Rattle.std.proofs.Common.{rules, [], ap, ◌∙◌}
+use Rattle.std.proofs.Common.{rules, [], ap, ◌∙◌, ◌++◌, ◌≡◌}
 use Rattle.mc_turn.specs.Laws.{may_leave, seen_whole, worked_none}
 use Rattle.turn_bench.specs.Settings.{Holds, client_of, set_to}
 use Rattle.turn_bench.proofs.settings.set_alone.Goals as goal
@@ -10,4 +10,5 @@ leave-requires-clause-extends g c = may_leave client_of (Holds c.args.value) 0 c
 pub returns : goal.returns
 returns g c =
     let found = seen_whole client_of 1 c.in_ok-turn.pass c.enter-settings.result (search rules) (search rules) c.enter-settings.ensures.seen in
-    record { set = (c.set-done.result, c.close.ensures.whole (search rules) ∙ (ap (λ k. k.seen) c.leave.ensures.pass ∙ (c.set-done.ensures.added ∙ ap (λ l. l ++ set_to c.set-done.result 0 c.args.value) (found ∙ search rules)))) }
+    let begun : c.enter-settings.result ≡ [] = found ∙ search rules in
+    record { set = (c.set-done.result, c.close.ensures.whole (search rules) ∙ (ap (λ k. k.seen) c.leave.ensures.pass ∙ (c.set-done.ensures.added ∙ ap (λ l. l ++ set_to c.set-done.result 0 c.args.value) begun))) }

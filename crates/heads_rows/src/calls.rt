@@ -33,8 +33,8 @@ impl Table for HeadsTable {
         let [lead, payload, tail, most] = arguments else {
             return Err(RowError::BadRow);
         };
-        let film = film_of(alloc, lead, payload, tail)?;
-        call_walk(alloc, walk, film, u64_in(most)?, out)
+        let most = u64_in(most)?;
+        call_walk(alloc, walk, film_of(alloc, lead, payload, tail)?, most, out)
     }
 }
 
@@ -72,7 +72,7 @@ fn film_of(
     })
 }
 
-// How many blocks the film gives and how it ends, and whether the walk reads few octets for each.
+// Walks the film from its opening on.
 fn call_walk(
     alloc: Global,
     walk: Walk,
@@ -81,13 +81,23 @@ fn call_walk(
     out: &mut String,
 ) -> Result<(), RowError> {
     let mut shelf = MadeShelf::new(film);
-    let mut cursor = match Cursor::begin(alloc, &mut shelf, FileNo(0)) {
-        Ok(cursor) => cursor,
-        Err(OpenError::NoMemory) => return Err(RowError::NoMemory),
-        Err(_) => return Err(RowError::BadRow),
-    };
+    match Cursor::begin(alloc, &mut shelf, FileNo(0)) {
+        Ok(mut cursor) => push_walk(&mut cursor, &mut shelf, walk, most, out),
+        Err(OpenError::NoMemory) => Err(RowError::NoMemory),
+        Err(_) => Err(RowError::BadRow),
+    }
+}
+
+// How many blocks the film gives and how it ends, and whether the walk reads few octets for each.
+fn push_walk(
+    cursor: &mut Cursor,
+    shelf: &mut MadeShelf,
+    walk: Walk,
+    most: u64,
+    out: &mut String,
+) -> Result<(), RowError> {
     shelf.take_count();
-    let (blocks, ending) = walked(&mut cursor, &mut shelf, walk)?;
+    let (blocks, ending) = walked(cursor, shelf, walk)?;
     write!(out, "{blocks} {ending:?} ")?;
     let count = shelf.take_count();
     if count < most.saturating_mul(PARTS) {
@@ -106,7 +116,7 @@ fn walked(
     shelf: &mut MadeShelf,
     walk: Walk,
 ) -> Result<(u64, Option<Ending>), RowError> {
-    let mut blocks = 0;
+    let mut blocks = 0u64;
     for _ in 0..MOST {
         let (has, ending) = match step(cursor, shelf, walk) {
             Ok(step) => step,
@@ -114,7 +124,7 @@ fn walked(
             Err(CursorError::ReadFault) => return Err(RowError::BadRow),
         };
         if has {
-            blocks += 1;
+            blocks = blocks.saturating_add(1);
         }
         if ending.is_some() {
             return Ok((blocks, ending));

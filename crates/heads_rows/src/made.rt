@@ -1,4 +1,4 @@
-ghost use Rattle.std.specs.Prelude.{None, ◌≤◌, ◌<◌, ◌-◌, ◌^◌, min, length, IfOk};
+ghost use Rattle.std.specs.Prelude.{◌<◌};
 
 use mc_outside::{Failed, FileNo, Shelf, ShelfError};
 
@@ -37,6 +37,15 @@ impl Film {
         (self.opening.len() as u64).saturating_add(self.part_len().saturating_mul(PARTS))
     }
 
+    // Fills a buffer with the film's octets from a place on.
+    fn copy_to(&self, pos: u64, buf: &mut [u8]) {
+        let mut place = pos;
+        for octet in buf.iter_mut() {
+            *octet = self.octet(place);
+            place = place.saturating_add(1);
+        }
+    }
+
     // The octet at a place of the film.
     fn octet(&self, pos: u64) -> u8 {
         let opening = self.opening.len() as u64;
@@ -47,7 +56,7 @@ impl Film {
         let at = (pos - opening) % self.part_len();
         let lead = self.lead.len() as u64;
         if at == self.number_at {
-            number as u8
+            (number % 256) as u8
         } else if at < lead {
             octet_of(&self.lead, at)
         } else if at - lead < self.payload {
@@ -89,6 +98,8 @@ impl MadeShelf {
 const END: u64 = 0x7fff_ffff_ffff_ffff;
 
 impl Shelf for MadeShelf {
+    ghost use Rattle.std.specs.Prelude.{None};
+
     ghost files = { λ s. None };
 
     ghost opened = { λ s k. None };
@@ -110,12 +121,10 @@ impl Shelf for MadeShelf {
         if pos >= end {
             return Ok(0);
         }
-        let count = (buf.len() as u64).min(end - pos);
-        for i in 0..count {
-            buf[i as usize] = self.film.octet(pos + i);
-        }
-        self.octets = self.octets.saturating_add(count);
-        Ok(count as usize)
+        let count = buf.len().min((end - pos) as usize);
+        self.film.copy_to(pos, &mut buf[..count]);
+        self.octets = self.octets.saturating_add(count as u64);
+        Ok(count)
     }
 
     fn fault_count(&self) -> u64 {

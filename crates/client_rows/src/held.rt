@@ -1,3 +1,6 @@
+ghost use Rattle.std.specs.Coded.{codes};
+ghost use Rattle.std.proofs.Props.{props};
+ghost use Rattle.mc_value.specs.contracts.value.Value as value;
 ghost use Rattle.mc_props.specs.Standard.{standard_of};
 ghost use Rattle.mc_client.specs.Watches.{Fresh};
 
@@ -15,7 +18,8 @@ pub struct Held<F: Reads<Standard>> {
     table: PropTable<F, Standard>,
     facts: Facts,
     client: Client,
-    ghost fresh: { Fresh standard_of table facts client.watches },
+    ghost fresh: { Fresh standard_of table facts client.watches }
+        by { Prim.hlevel (props, codes, value.the_row.coded) },
 }
 
 // A file is loaded, of which nothing was read yet.

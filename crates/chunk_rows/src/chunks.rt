@@ -29,14 +29,11 @@ pub fn cursor_of(alloc: Global, shelf: &mut MemShelf) -> Option<Cursor> {
 }
 
 // The packets of a film's chunks, one chunk behind the other, and its ending.
-fn joined(alloc: Global, shelf: &mut MemShelf) -> Option<(Packets, Ending)> {
-    let mut cursor = cursor_of(alloc, shelf)?;
+fn joined(alloc: Global, cursor: &mut Cursor, shelf: &mut MemShelf) -> Option<(Packets, Ending)> {
     let mut packets = Packets::new(alloc);
     for _ in 0..MOST {
-        let chunk = twice(&mut cursor, shelf)?;
-        for packet in chunk.packets.as_slice() {
-            packets.push(packet.copy().ok()?).ok()?;
-        }
+        let chunk = twice(cursor, shelf)?;
+        packets.append(chunk.packets).ok()?;
         if let Some(ending) = chunk.ending {
             return Some((packets, ending));
         }
@@ -47,6 +44,9 @@ fn joined(alloc: Global, shelf: &mut MemShelf) -> Option<(Packets, Ending)> {
 /// Whether a film read on demand is the film read whole.
 pub fn reads_alike(alloc: Global, octets: &[u8]) -> Result<bool, RowError> {
     let mut shelf = shelf_of(alloc, octets, None, None)?;
-    let read = joined(alloc, &mut shelf);
+    let read = match cursor_of(alloc, &mut shelf) {
+        Some(mut cursor) => joined(alloc, &mut cursor, &mut shelf),
+        None => None,
+    };
     Ok(are_the_film(alloc, octets, read))
 }

@@ -73,9 +73,7 @@ pub fn call_change(
     for change in items_in(changes)? {
         put(octets.as_mut_slice(), change)?;
     }
-    for octet in octets_in(alloc, behind)? {
-        octets.push(octet)?;
-    }
+    octets.extend_from_slice(octets_in(alloc, behind)?.as_slice())?;
     push_size(octets.len(), out)?;
     films.add(alloc, name, octets)
 }

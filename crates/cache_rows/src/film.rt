@@ -1,10 +1,11 @@
-ghost use Rattle.std.specs.Prelude.{◌≤◌, ◌<◌, IsTrue};
+ghost use Rattle.std.specs.Prelude.{◌≡◌, ◌≤◌, ◌<◌, IfOk, IsSomeAnd, IsTrue};
+ghost use Rattle.mc_packet.specs.Shape.{HasShape};
 ghost use Rattle.mc_queue.specs.Places.{weights};
 ghost use Rattle.mc_cache.specs.Cache.{ranges_of, weight_of};
 
 use bytes::Bytes;
 use mc_cache::Cache;
-use mc_packet::{Chunk, Ending, Heads, NoMemory, Packet, Packets};
+use mc_packet::{Chunk, Ending, Heads, Mark, NoMemory, Packet, Packets};
 use rows::RowError;
 use rows_packets::{at, mark_at};
 use std::alloc::Global;
@@ -70,26 +71,46 @@ fn packets_of(alloc: Global, letter: char, block: u16) -> Result<Packets, NoMemo
     Ok(packets)
 }
 
-/// Reads the film on, over a packet, or up to a block without one.
-pub fn read(alloc: Global, cache: &mut Cache, letter: char, block: u16) -> Result<(), RowError> {
-    let from = cache.mark().ok_or(RowError::BadRow)?;
+// The film from a mark on over a packet, or up to a block without one.
+fn part(alloc: Global, from: Mark, letter: char, block: u16) -> Result<Chunk, NoMemory>
+    ensures { IfOk result (λ c. c.from ≡ from) }
+{
     let packets = packets_of(alloc, letter, block)?;
-    let to = block as u64 + packets.len() as u64;
+    let to = mark_at(block as u64 + packets.len() as u64);
     let ending = if letter == 'e' {
         Some(Ending::Clean)
     } else {
         None
     };
-    let chunk = Chunk {
+    Ok(Chunk {
         from,
-        to: mark_at(to),
+        to,
         packets,
         ending,
+    })
+}
+
+fn feed(cache: &mut Cache, chunk: Chunk) -> Result<(), RowError>
+    requires current { IsSomeAnd cache.old.current (λ r. chunk.from ≡ r.mark) }
+    requires shape { HasShape chunk }
+{
+    if !is_light(chunk.packets.as_slice()) || weight(cache) > MOST {
+        return Err(RowError::BadRow);
+    }
+    cache.feed(chunk)?;
+    Ok(())
+}
+
+/// Reads the film on, over a packet, or up to a block without one.
+#[tactic(auto, using(crate::proofs::Marks::still_marked))]
+pub fn read(alloc: Global, cache: &mut Cache, letter: char, block: u16) -> Result<(), RowError> {
+    let Some(from) = cache.mark() else {
+        return Err(RowError::BadRow);
     };
-    if !chunk.has_shape() || !is_light(chunk.packets.as_slice()) || weight(cache) > MOST {
+    let chunk = part(alloc, from, letter, block)?;
+    if !chunk.has_shape() {
         return Err(RowError::BadRow);
     }
     cache.make_room_to_feed(&chunk)?;
-    cache.feed(chunk)?;
-    Ok(())
+    feed(cache, chunk)
 }

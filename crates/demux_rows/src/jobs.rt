@@ -1,3 +1,7 @@
+ghost use Rattle.std.specs.Prelude.{◌≡◌, ◌+◌, IfOk, OnOk};
+ghost use Rattle.mc_demux.specs.Demuxers.{IsDemux};
+ghost use Rattle.mc_demux.specs.Jobs.{kept_job};
+
 use crate::film::{part_at, starts_at};
 use mc_demux::{Demux, DemuxError, Job, Taken};
 use mc_packet::{Dir, Packet};
@@ -43,10 +47,21 @@ pub fn push_done(done: Done, out: &mut String) -> Result<(), AllocError> {
     }
 }
 
+// The next job, which is kept until its outcome comes.
+fn next_job(demux: &mut Demux) -> Result<Job, RowError>
+    ensures kept { IfOk result (λ job. demux.new.kept ≡ kept_job job) }
+    ensures demux { IsDemux demux.new }
+{
+    match demux.next_job() {
+        Ok(job) => Ok(job),
+        Err(error) => Err(row_error(error)),
+    }
+}
+
 /// Does the next job, where it reads on.
 #[tactic(auto, using(mc_demux::proofs::Shapes::resume_fits, mc_demux::proofs::Shapes::read_fits))]
 pub fn work(alloc: Global, demux: &mut Demux, film: &[Packet]) -> Result<Done, RowError> {
-    match demux.next_job().map_err(row_error)? {
+    match next_job(demux)? {
         Job::Resume { no, mark } => {
             let part = part_at(alloc, film, mark)?;
             demux.feed(no, part).map_err(row_error)?;
@@ -68,7 +83,7 @@ pub fn work(alloc: Global, demux: &mut Demux, film: &[Packet]) -> Result<Done, R
 /// Does the next job, where it finds starts.
 #[tactic(auto, using(mc_demux::proofs::Shapes::starts_fit))]
 pub fn find(demux: &mut Demux, video: u64, audio: u64) -> Result<Done, RowError> {
-    match demux.next_job().map_err(row_error)? {
+    match next_job(demux)? {
         Job::SeekTo { no, set, .. } => {
             demux
                 .found(no, starts_at(set, video, audio))
@@ -87,7 +102,7 @@ pub fn find(demux: &mut Demux, video: u64, audio: u64) -> Result<Done, RowError>
 
 /// Fails the next job, where it reads on.
 pub fn fail(demux: &mut Demux) -> Result<Done, RowError> {
-    match demux.next_job().map_err(row_error)? {
+    match next_job(demux)? {
         Job::Resume { no, .. } | Job::Read { no } => match demux.failed(no, 0, 1) {
             Taken::Taken => Ok(Done::Failed(no)),
             Taken::Stale { asked, now } => Ok(Done::Stale { asked, now }),
@@ -96,18 +111,29 @@ pub fn fail(demux: &mut Demux) -> Result<Done, RowError> {
     }
 }
 
+// Seeks back to a time; what was asked for before is then stale.
+fn seek_back(demux: &mut Demux, t: i64) -> Result<(), RowError>
+    ensures { OnOk result (demux.new.number ≡ demux.old.number + 1) }
+{
+    match demux.seek(CORE, t, Dir::Back) {
+        Ok(_) => Ok(()),
+        Err(error) => Err(row_error(error)),
+    }
+}
+
 /// Takes the next job, which reads on from a mark, seeks, and brings the job's part only then.
+#[tactic(auto, using(crate::proofs::Late::late_fits))]
 pub fn bring_late(
     alloc: Global,
     demux: &mut Demux,
     film: &[Packet],
     t: i64,
 ) -> Result<Done, RowError> {
-    let Job::Resume { no, mark } = demux.next_job().map_err(row_error)? else {
+    let Job::Resume { no, mark } = next_job(demux)? else {
         return Ok(Done::Other);
     };
     let part = part_at(alloc, film, mark)?;
-    demux.seek(CORE, t, Dir::Back).map_err(row_error)?;
+    seek_back(demux, t)?;
     match demux.feed(no, part).map_err(row_error)? {
         Taken::Taken => Ok(Done::Other),
         Taken::Stale { asked, now } => Ok(Done::Stale { asked, now }),

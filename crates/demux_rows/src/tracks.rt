@@ -1,5 +1,6 @@
 ghost use Rattle.std.specs.Prelude.{◌≡◌, IfOk};
 ghost use Rattle.mc_journal.specs.Choices.{is_known, passes};
+ghost use Rattle.mc_tracks.specs.TrackList.{is_of};
 ghost use Rattle.mc_demux.specs.Demuxers.{AreLimits};
 ghost use Rattle.mc_demux.specs.Selecting.{knows};
 
@@ -43,11 +44,17 @@ fn tracks(alloc: Global) -> Result<TrackList, NoMemory> {
     Ok(list)
 }
 
+fn is_of(kind: Kind, other: Kind) -> bool
+    ensures { result ≡ is_of kind other }
+{
+    kind == other
+}
+
 fn knows(list: &TrackList, kind: Kind, no: TrackNo) -> bool
     ensures { result ≡ knows list.now kind no }
 {
     match list.get(no) {
-        Some(track) => kind == track.kind && !track.encoded,
+        Some(track) => is_of(kind, track.kind) && !track.encoded,
         None => false,
     }
 }
@@ -61,6 +68,7 @@ fn passes(list: &TrackList, kind: Kind, track: Option<TrackNo>) -> bool
     }
 }
 
+#[tactic(auto, using(crate::proofs::Sets::same_distinct))]
 fn are_known(list: &TrackList, set: Choice) -> bool
     ensures { result ≡ is_known (knows list.now) set }
 {

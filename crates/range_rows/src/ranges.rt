@@ -1,5 +1,6 @@
-ghost use Rattle.std.specs.Prelude.{◌<◌, IsTrue};
+ghost use Rattle.std.specs.Prelude.{◌≡◌, ◌<◌, IsTrue, is_some};
 ghost use Rattle.mc_queue.specs.Places.{weights};
+ghost use Rattle.mc_range.specs.Tracks.{queue_under, selected_under};
 
 use mc_packet::{Choice, Chunk, Ending, Kind, Packet, Packets, Starts, TrackNo};
 use mc_range::{Range, UnionError};
@@ -64,6 +65,7 @@ pub fn reach(
     feed(range, to, Packets::new(alloc), ending)
 }
 
+#[tactic(auto, using(crate::proofs::Sets::same_distinct))]
 fn begun(alloc: Global, set: Choice, starts: &Starts) -> Result<Range, RowError> {
     if !set.is_distinct() || !starts.are_at_mark() {
         return Err(RowError::BadRow);
@@ -94,12 +96,37 @@ pub fn join(range: &mut Range, other: &mut Range) -> Option<Result<(), UnionErro
 }
 
 /// Selects other tracks.
+#[tactic(auto, using(crate::proofs::Sets::same_distinct))]
 pub fn retrack(range: &mut Range, set: Choice) -> Result<(), RowError> {
     if !set.is_distinct() {
         return Err(RowError::BadRow);
     }
     range.retrack(set);
     Ok(())
+}
+
+// The selected track of a kind.
+fn selected(range: &Range, kind: Kind) -> Option<TrackNo>
+    ensures { result ≡ selected_under kind range.now.set }
+{
+    let set = range.set();
+    match kind {
+        Kind::Video => set.video,
+        Kind::Audio => set.audio,
+        Kind::Sub => set.sub,
+    }
+}
+
+// Whether a kind has a queue.
+fn has_queue(range: &Range, kind: Kind) -> bool
+    ensures { result ≡ is_some (queue_under kind range.now.queues) }
+{
+    let spans = range.spans();
+    match kind {
+        Kind::Video => spans.video.is_some(),
+        Kind::Audio => spans.audio.is_some(),
+        Kind::Sub => spans.sub.is_some(),
+    }
 }
 
 /// Gives a selected track a queue that it does not have.
@@ -110,13 +137,7 @@ pub fn add_track(
     start: u64,
     mark: u64,
 ) -> Result<(), RowError> {
-    let (set, spans) = (range.set(), range.spans());
-    let (selected, span) = match kind {
-        Kind::Video => (set.video, spans.video),
-        Kind::Audio => (set.audio, spans.audio),
-        Kind::Sub => (set.sub, spans.sub),
-    };
-    if selected != Some(track) || span.is_some() || mark > start {
+    if selected(range, kind) != Some(track) || has_queue(range, kind) || mark > start {
         return Err(RowError::BadRow);
     }
     range.add_track(kind, track, start, mark_at(mark));

@@ -1,0 +1,15 @@
+-- The two definitions of tracks of which none stands under two kinds say one thing.
+use Rattle.std.proofs.Common.{◌≡◌, ℕ, Option, Some, None, refl}
+use Rattle.mc_packet.specs.declared.choice.Choice.{Choice}
+use Rattle.mc_packet.specs.Choices.{is_distinct as is_distinct_here, is_other as is_other_here}
+use Rattle.mc_journal.specs.Choices.{is_distinct, is_other}
+
+same_other : (a b : Option ℕ) → is_other_here a b ≡ is_other a b
+same_other (Some a) (Some b) = refl
+same_other (Some a) None = refl
+same_other None (Some b) = refl
+same_other None None = refl
+
+pub same_distinct : (set : Choice) → is_distinct_here set ≡ is_distinct set
+same_distinct set =
+    rw (same_other set.video set.audio, same_other set.video set.sub, same_other set.audio set.sub) refl

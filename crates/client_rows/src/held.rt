@@ -18,8 +18,7 @@ pub struct Held<F: Reads<Standard>> {
     table: PropTable<F, Standard>,
     facts: Facts,
     client: Client,
-    ghost fresh: { Fresh standard_of table facts client.watches }
-        by { Prim.hlevel (props, codes, value.the_row.coded) },
+    ghost fresh: { Fresh standard_of table facts client.watches } by { Prim.hlevel (props, codes, value.the_row.coded) },
 }
 
 // A file is loaded, of which nothing was read yet.

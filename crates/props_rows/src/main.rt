@@ -13,7 +13,7 @@ mod table;
 use mc_props::meanings::Standard;
 use mc_props::{Facts, PropTable, Reading, Reads, standard, standard_entries};
 use mc_value::Value;
-use own::{OwnTable, Silence, own_entries};
+use own::{OwnTable, Silence};
 use rows::play;
 use std::alloc::Global;
 use std::io;
@@ -39,7 +39,6 @@ fn play_all<F: Reads<Standard>, G: Reads<Silence>>(
     requires own { G.answers own 0 }
 {
     let table = PropTable::new(alloc, standard_entries(alloc)?, reader);
-    let own = PropTable::new(alloc, own_entries(alloc)?, own);
-    let own = OwnTable::new(own, Facts::new(alloc));
+    let own = OwnTable::new(alloc, own)?;
     play(rt, &mut PropsTable::new(table, Facts::new(alloc), own))
 }

@@ -16,18 +16,7 @@ impl Meaning for Silence {
     ghost value = { λ place f. Is (value.Flag f.mute) };
 }
 
-/// The entry `silent`, which reads the field of the sound.
-pub fn own_entries(alloc: Global) -> Result<PropEntries, NoMemory> {
-    let mut entries = PropEntries::new(alloc);
-    entries.push(PropEntry {
-        name: Text::new(alloc, "silent")?,
-        mask: fields::MUTE,
-        writable: false,
-    })?;
-    Ok(entries)
-}
-
-/// The calls of a table with that property.
+/// The calls of a table of that property alone, under the name `silent`.
 #[derive(Drop)]
 pub struct OwnTable<G: Reads<Silence>> {
     table: PropTable<G, Silence>,
@@ -35,9 +24,20 @@ pub struct OwnTable<G: Reads<Silence>> {
 }
 
 impl<G: Reads<Silence>> OwnTable<G> {
-    /// The table at these facts.
-    pub fn new(table: PropTable<G, Silence>, facts: Facts) -> OwnTable<G> {
-        OwnTable { table, facts }
+    /// The table of the reader, at the first facts of a player.
+    pub fn new(alloc: Global, reader: G) -> Result<OwnTable<G>, NoMemory>
+        requires { G.answers reader 0 }
+    {
+        let mut entries = PropEntries::new(alloc);
+        entries.push(PropEntry {
+            name: Text::new(alloc, "silent")?,
+            mask: fields::MUTE,
+            writable: false,
+        })?;
+        Ok(OwnTable {
+            table: PropTable::new(alloc, entries, reader),
+            facts: Facts::new(alloc),
+        })
     }
 }
 

@@ -50,8 +50,8 @@ pub struct FakeFile {
     fickle: Fickle,
 }
 
-fn refused<T>() -> io::Result<T> {
-    Err(io::Error::from(ErrorKind::InvalidInput))
+fn refusal() -> io::Error {
+    io::Error::from(ErrorKind::InvalidInput)
 }
 
 fn unsupported<T>() -> io::Result<T> {
@@ -63,13 +63,11 @@ impl FakeFile {
     fn give(&mut self, buf: &mut [u8]) -> usize
         ensures { result ≤ length buf.new }
     {
-        let mut given = 0;
-        for octet in buf.iter_mut() {
-            if self.place < self.len {
-                self.place = self.place.saturating_add(1);
-                *octet = (self.place % 256) as u8;
-                given += 1;
-            }
+        let left = self.len.saturating_sub(self.place) as usize;
+        let given = left.min(buf.len());
+        for octet in buf[..given].iter_mut() {
+            self.place = self.place.saturating_add(1);
+            *octet = (self.place % 256) as u8;
         }
         given
     }
@@ -78,7 +76,7 @@ impl FakeFile {
 impl Read for FakeFile {
     fn read(&mut self, buf: &mut [u8]) -> io::Result<usize> {
         match self.manner {
-            Manner::Broken => refused(),
+            Manner::Broken => Err(refusal()),
             Manner::Fickle => self.fickle.step(buf.len()),
             Manner::Shrinking => {
                 let given = self.give(buf);
@@ -101,18 +99,18 @@ impl Seek for FakeFile {
                 self.place = self.len;
                 Ok(self.len)
             }
-            _ => refused(),
+            _ => Err(refusal()),
         }
     }
 }
 
 impl Write for FakeFile {
     fn write(&mut self, _buf: &[u8]) -> io::Result<usize> {
-        refused()
+        Err(refusal())
     }
 
     fn flush(&mut self) -> io::Result<()> {
-        refused()
+        Err(refusal())
     }
 }
 

@@ -146,8 +146,9 @@ fn call_read<S: Shelf>(
     out: &mut String,
 ) -> Result<(), RowError> {
     let (file, pos, size) = three(arguments)?;
+    let (file, pos) = (file_in(file)?, place_in(pos)?);
     let mut buf = vec![in alloc; 0xEEu8; size_in(size)? as usize]?;
-    match shelf.read_at(file_in(file)?, place_in(pos)?, buf.as_mut_slice()) {
+    match shelf.read_at(file, pos, buf.as_mut_slice()) {
         Ok(count) => Ok(push_read(out, count, buf.as_slice())?),
         Err(Failed) => Ok(out.push_str("Failed")?),
     }
@@ -221,14 +222,12 @@ pub fn call_make(
     out: &mut String,
 ) -> Result<(), RowError> {
     let (path, count) = two(arguments)?;
+    let (path, count) = (text_in(path)?, size_in(count)?);
     let mut octets = Vec::new(rt.alloc());
-    for place in 0..size_in(count)? {
+    for place in 0..count {
         octets.push(octet_at(place as u64))?;
     }
-    push_done(
-        out,
-        fs::write(rt, text_in(path)?, octets.as_slice()).is_ok(),
-    )
+    push_done(out, fs::write(rt, path, octets.as_slice()).is_ok())
 }
 
 /// Writes a file of the octets of a row.
@@ -238,11 +237,9 @@ pub fn call_write_file(
     out: &mut String,
 ) -> Result<(), RowError> {
     let (path, octets) = two(arguments)?;
+    let path = text_in(path)?;
     let octets = octets_in(rt.alloc(), octets)?;
-    push_done(
-        out,
-        fs::write(rt, text_in(path)?, octets.as_slice()).is_ok(),
-    )
+    push_done(out, fs::write(rt, path, octets.as_slice()).is_ok())
 }
 
 /// Removes a file.
@@ -263,9 +260,20 @@ pub fn call_slice(alloc: Global, arguments: &[Json<'_>], out: &mut String) -> Re
     let [name, octets, asked, reads @ ..] = arguments else {
         return Err(RowError::BadRow);
     };
+    let (name, asked) = (text_in(name)?, text_in(asked)?);
     let octets = octets_in(alloc, octets)?;
-    let mut shelf = SliceShelf::new(text_in(name)?, octets.as_slice());
-    call_open(&mut shelf, text_in(asked)?, out)?;
+    let mut shelf = SliceShelf::new(name, octets.as_slice());
+    push_slice(alloc, &mut shelf, asked, reads, out)
+}
+
+fn push_slice(
+    alloc: Global,
+    shelf: &mut SliceShelf<'_>,
+    asked: &str,
+    reads: &[Json<'_>],
+    out: &mut String,
+) -> Result<(), RowError> {
+    call_open(shelf, asked, out)?;
     out.push_str(" ")?;
-    call_read(alloc, &mut shelf, reads, out)
+    call_read(alloc, shelf, reads, out)
 }

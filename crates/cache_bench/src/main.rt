@@ -5,6 +5,7 @@
 mod film;
 mod work;
 
+use mc_cache::Cache;
 use std::alloc::Global;
 use std::time::{Clock, Instant};
 use std::{env, io};
@@ -37,24 +38,51 @@ fn run<R: Print + Clock>(
     is_timed: bool,
 ) -> io::Result<()> {
     let mut cache = work::begin(alloc)?;
+    fill(rt, alloc, &mut cache, packets, is_timed)?;
+    look_up(rt, &mut cache, packets, seeks, is_timed)?;
+    prune(rt, &mut cache, is_timed)
+}
+
+// Feeds it all packets.
+fn fill<R: Print + Clock>(
+    rt: &R,
+    alloc: Global,
+    cache: &mut Cache,
+    packets: u32,
+    is_timed: bool,
+) -> io::Result<()> {
     let start = Instant::now(rt)?;
-    let fed = work::feed(alloc, &mut cache, packets)?;
-    tell(rt, "packets fed", fed as u64, start, is_timed)?;
+    let fed = work::feed(alloc, cache, packets)?;
+    tell(rt, "packets fed", fed as u64, start, is_timed)
+}
+
+// Seeks in it, without a look and with one.
+fn look_up<R: Print + Clock>(
+    rt: &R,
+    cache: &mut Cache,
+    packets: u32,
+    seeks: u32,
+    is_timed: bool,
+) -> io::Result<()> {
     let start = Instant::now(rt)?;
-    let served = work::seek(&mut cache, packets, seeks);
+    let served = work::seek(cache, packets, seeks);
     tell(rt, "seeks served", served as u64, start, is_timed)?;
     let start = Instant::now(rt)?;
-    let looked = work::seek_and_look(&mut cache, packets, seeks);
+    let looked = work::seek_and_look(cache, packets, seeks);
     tell(
         rt,
         "seeks served, with a look",
         looked as u64,
         start,
         is_timed,
-    )?;
+    )
+}
+
+// Prunes all away.
+fn prune<R: Print + Clock>(rt: &R, cache: &mut Cache, is_timed: bool) -> io::Result<()> {
     let held = cache.held();
     let start = Instant::now(rt)?;
-    let _drops = work::prune_all(&mut cache);
+    let _drops = work::prune_all(cache);
     let left = cache.held();
     tell(
         rt,

@@ -1,5 +1,5 @@
 ghost use Rattle.std.specs.Prelude.{◌≡◌, IfOk};
-ghost use Rattle.mc_journal.specs.Choices.{is_known, passes};
+ghost use Rattle.mc_packet.specs.Choices.{is_known, passes};
 ghost use Rattle.mc_tracks.specs.TrackList.{is_of};
 ghost use Rattle.mc_demux.specs.Demuxers.{AreLimits};
 ghost use Rattle.mc_demux.specs.Selecting.{knows};

@@ -10,7 +10,7 @@ use Rattle.mc_packet.specs.declared.choice.Starts.{Starts}
 use Rattle.mc_packet.specs.declared.walk.Ending.{Ending}
 use Rattle.mc_packet.specs.declared.walk.Mark.{Mark}
 use Rattle.mc_journal.specs.Told.{Told}
-use Rattle.mc_journal.specs.Choices.{is_track, or_else}
+use Rattle.mc_packet.specs.Choices.{is_track, or_else}
 use Rattle.mc_journal.specs.Films.{first_lane}
 use Rattle.mc_journal.specs.Ranges.{Range, Span}
 use Rattle.mc_journal.specs.Stands.{Stand, add_spans, empty_span, found, span_given}

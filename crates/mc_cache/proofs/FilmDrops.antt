@@ -12,7 +12,7 @@ use Rattle.mc_packet.specs.declared.choice.Choice.{Choice}
 use Rattle.mc_packet.specs.declared.cache.Heads.{Heads}
 use Rattle.mc_packet.specs.declared.walk.Mark.{Mark}
 use Rattle.mc_journal.specs.Told.{Told, told}
-use Rattle.mc_journal.specs.Choices.{is_distinct}
+use Rattle.mc_packet.specs.Choices.{is_distinct}
 use Rattle.mc_journal.specs.Films.{at, rank, first, track_of}
 use Rattle.mc_journal.specs.Ranges.{Range, Span, held, in_span, within}
 use Rattle.mc_journal.specs.Allowed.{Cuts as CutsSpan}

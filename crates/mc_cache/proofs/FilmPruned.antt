@@ -9,7 +9,7 @@ use Rattle.mc_packet.specs.declared.cache.Heads.{Heads}
 use Rattle.mc_packet.specs.declared.choice.Choice.{Choice}
 use Rattle.mc_journal.specs.declared.record.Removal.{Removal}
 use Rattle.mc_journal.specs.Told.{Told}
-use Rattle.mc_journal.specs.Choices.{is_distinct}
+use Rattle.mc_packet.specs.Choices.{is_distinct}
 use Rattle.mc_journal.specs.Films.{rank}
 use Rattle.mc_journal.specs.Ranges.{Range, Span}
 use Rattle.mc_journal.specs.Stands.{Stand, cut_in, cut_last, cut_range, cut_span, dropped, holds_any, tidied}

@@ -12,7 +12,8 @@ use Rattle.mc_journal.specs.declared.record.Cause.{Cause}
 use Rattle.mc_journal.specs.declared.record.Cause.TheVariants.{TooMany, TrackChanged}
 use Rattle.mc_journal.specs.declared.record.Removal.{Removal}
 use Rattle.mc_journal.specs.Told.{Told, told}
-use Rattle.mc_journal.specs.Choices.{has, is_other, is_track, kept_of, kept_track}
+use Rattle.mc_packet.specs.Choices.{has, is_other, is_track}
+use Rattle.mc_journal.specs.Choices.{kept_of, kept_track}
 use Rattle.mc_journal.specs.Films.{first, rank}
 use Rattle.mc_journal.specs.Ranges.{Range, held}
 use Rattle.mc_journal.specs.Used as used

@@ -8,7 +8,7 @@ use Rattle.mc_packet.specs.declared.choice.Choice.{Choice}
 use Rattle.mc_packet.specs.declared.walk.Mark.{Mark}
 use Rattle.mc_journal.specs.declared.record.Removal.{Removal}
 use Rattle.mc_journal.specs.Told.{Told}
-use Rattle.mc_journal.specs.Choices.{is_distinct}
+use Rattle.mc_packet.specs.Choices.{is_distinct}
 use Rattle.mc_journal.specs.Films.{IsRising}
 use Rattle.mc_journal.specs.Ranges.{Range, touches}
 use Rattle.mc_journal.specs.Stands.{Stand, first_that}

@@ -10,7 +10,8 @@ use Rattle.mc_packet.specs.declared.choice.Kind.{Kind}
 use Rattle.mc_packet.specs.declared.choice.Kind.TheVariants.{Video, Audio, Sub}
 use Rattle.mc_packet.specs.declared.walk.Mark.{Mark}
 use Rattle.mc_journal.specs.Films.{rank}
-use Rattle.mc_queue.specs.Places.{Rise, place, weights, from_place}
+use Rattle.mc_queue.specs.Places.{Rise, place, weights}
+use Rattle.mc_journal.specs.Views.{from_place}
 use Rattle.mc_queue.specs.Queue.{QueueState, first_of}
 use Rattle.mc_queue.proofs.Rising.{all_from, less_weight_from}
 use Rattle.mc_range.specs.declared.cutting.Cut.{Cut}

@@ -4,7 +4,7 @@ use Rattle.std.proofs.lemmas.Bool.{cases_Bool}
 use Rattle.mc_packet.specs.declared.choice.Choice.{Choice}
 use Rattle.mc_packet.specs.declared.cache.Heads.{Heads}
 use Rattle.mc_packet.specs.declared.packet.Pos.{Pos}
-use Rattle.mc_journal.specs.Choices.{is_track}
+use Rattle.mc_packet.specs.Choices.{is_track}
 use Rattle.mc_journal.specs.Films.{rank}
 use Rattle.mc_queue.specs.Queue.{QueueState}
 use Rattle.mc_queue.proofs.Rising.{less_weight_from}

@@ -8,7 +8,7 @@ use Rattle.mc_packet.specs.declared.cache.Heads.{Heads}
 use Rattle.mc_packet.specs.declared.choice.Choice.{Choice}
 use Rattle.mc_packet.specs.declared.walk.Mark.{Mark}
 use Rattle.mc_journal.specs.Told.{Told, told}
-use Rattle.mc_journal.specs.Choices.{or_else}
+use Rattle.mc_packet.specs.Choices.{or_else}
 use Rattle.mc_journal.specs.Films.{rank, track_of}
 use Rattle.mc_journal.specs.Ranges.{Span, in_span}
 use Rattle.mc_queue.specs.Queue.{QueueState}

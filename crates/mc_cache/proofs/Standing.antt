@@ -12,7 +12,7 @@ use Rattle.mc_packet.specs.declared.packet.Packet.{Packet}
 use Rattle.mc_packet.specs.declared.walk.Chunk.{Chunk}
 use Rattle.mc_journal.specs.declared.record.Removal.{Removal}
 use Rattle.mc_journal.specs.Told.{Told, told}
-use Rattle.mc_journal.specs.Choices.{is_distinct, is_empty, passes}
+use Rattle.mc_packet.specs.Choices.{is_distinct, is_empty, passes}
 use Rattle.mc_journal.specs.Films.{IsRising, first}
 use Rattle.mc_journal.specs.Ranges.{Range, held, serves as film_serves}
 use Rattle.mc_journal.specs.Stands.{Stand, chosen, fed, fed_range, first_that, found_with, holds_any, keep_tracks, left, new_range, switched, ranges_of as stand_ranges, tidied, without_first as stand_without}

@@ -8,7 +8,7 @@ use Rattle.mc_packet.specs.declared.packet.Packet.{Packet}
 use Rattle.mc_packet.specs.declared.walk.Mark.{Mark}
 use Rattle.mc_journal.specs.declared.record.Cause.{Cause}
 use Rattle.mc_journal.specs.declared.record.Removal.{Removal}
-use Rattle.mc_journal.specs.Choices.{is_track, nothing}
+use Rattle.mc_packet.specs.Choices.{is_track, nothing}
 use Rattle.mc_queue.specs.Queue.{QueueState}
 use Rattle.mc_range.specs.declared.queues.Queues.{Queues}
 use Rattle.mc_range.specs.Range.{RangeState, IsRange, QueueIn, queue_of}

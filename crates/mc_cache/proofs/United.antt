@@ -11,7 +11,8 @@ use Rattle.mc_journal.specs.Films.{rank}
 use Rattle.mc_journal.specs.Ranges.{touches}
 use Rattle.mc_journal.specs.declared.record.Removal.{Removal}
 use Rattle.mc_queue.specs.declared.queue.UnionError.TheVariants.{NoMemory}
-use Rattle.mc_queue.specs.Places.{Rise, before, from_place, is_before, is_from, place, weight_of as weight_of_packet, weights}
+use Rattle.mc_queue.specs.Places.{Rise, before, is_before, is_from, place, weight_of as weight_of_packet, weights}
+use Rattle.mc_journal.specs.Views.{from_place}
 use Rattle.mc_queue.specs.Queue.{QueueState, IsQueue}
 use Rattle.mc_queue.specs.Union.{added, united, in_front, behind_all}
 use Rattle.mc_queue.proofs.Rising.{weights_of_two}

@@ -11,13 +11,14 @@ use Rattle.mc_packet.specs.declared.cache.Heads.{Heads}
 use Rattle.mc_packet.specs.declared.cache.RangeView.{RangeView}
 use Rattle.mc_packet.specs.declared.choice.Choice.{Choice}
 use Rattle.mc_journal.specs.Told.{Told, told}
-use Rattle.mc_journal.specs.Choices.{each_of, is_distinct, is_other, is_track, of_track, passes}
+use Rattle.mc_packet.specs.Choices.{is_distinct, is_other, is_track, passes}
+use Rattle.mc_journal.specs.Choices.{each_of, of_track}
 use Rattle.mc_journal.specs.Films.{at, rank}
 use Rattle.mc_journal.specs.Ranges.{bounds, held, on_span}
 use Rattle.mc_journal.specs.Stands.{ranges_of as stand_ranges, holds_any, tidied}
 use Rattle.mc_journal.specs.Views as views
-use Rattle.mc_journal.specs.Views.{range_shown, range_weight, forward_in, weight}
-use Rattle.mc_queue.specs.Places.{is_from, from_place, weight_of as packet_weight, weights}
+use Rattle.mc_journal.specs.Views.{range_shown, range_weight, forward_in, weight, from_place}
+use Rattle.mc_queue.specs.Places.{is_from, weight_of as packet_weight, weights}
 use Rattle.mc_queue.specs.Queue.{QueueState}
 use Rattle.mc_range.specs.Range.{RangeState, IsRange, QueueIn, as_range, queue_of}
 use Rattle.mc_range.specs.Serving.{HoldsFilm, packets_in}

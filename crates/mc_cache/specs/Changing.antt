@@ -11,7 +11,7 @@ use Rattle.mc_packet.specs.declared.walk.Chunk.{Chunk}
 use Rattle.mc_packet.specs.declared.walk.Mark.{Mark}
 use Rattle.mc_journal.specs.declared.record.Cause.TheVariants.{TooMany, TrackChanged}
 use Rattle.mc_journal.specs.declared.record.Removal.{Removal}
-use Rattle.mc_journal.specs.Choices.{is_empty}
+use Rattle.mc_packet.specs.Choices.{is_empty}
 use Rattle.mc_range.specs.Range.{RangeState, IsBegun, IsRoomier}
 use Rattle.mc_range.specs.Growing.{IsFed}
 use Rattle.mc_range.specs.Serving.{heads_of}

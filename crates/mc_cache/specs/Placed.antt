@@ -9,7 +9,7 @@ use Rattle.mc_packet.specs.declared.choice.Kind.TheVariants.{Video, Audio, Sub}
 use Rattle.mc_packet.specs.declared.choice.Starts.{Starts}
 use Rattle.mc_packet.specs.declared.walk.Mark.{Mark}
 use Rattle.mc_journal.specs.declared.record.Removal.{Removal}
-use Rattle.mc_journal.specs.Choices.{is_track}
+use Rattle.mc_packet.specs.Choices.{is_track}
 use Rattle.mc_journal.specs.Films.{rank}
 use Rattle.mc_journal.specs.Used.{Due}
 use Rattle.mc_range.specs.Range.{RangeState, queue_of}

@@ -1,13 +1,12 @@
-ghost use Rattle.std.specs.Prelude.{◌≡◌, ◌≤◌, ◌<◌, ◌+◌, ◌^◌, true, [], Some, None, length, IfOk, IfSome, IsSomeAnd, find, OnErr, OnOk, OnSome, IfNone};
+ghost use Rattle.std.specs.Prelude.{◌≡◌, ◌≤◌, ◌<◌, ◌+◌, ◌^◌, true, [], Some, None, length, IfOk, IfSome, IsSomeAnd, find, OnErr, OnOk, OnSome, IfNone, drop};
 ghost use Rattle.std.specs.Option.{option_copied};
 ghost use Rattle.mc_packet.specs.Shape.{HasShape};
-ghost use Rattle.mc_journal.specs.Choices.{is_distinct};
+ghost use Rattle.mc_packet.specs.Choices.{is_distinct};
 ghost use Rattle.mc_journal.specs.Films.{rank};
 ghost use Rattle.mc_queue.specs.Places.{weights};
 ghost use Rattle.mc_range.specs.Range.{AtMark, IsBegun, IsRange};
 ghost use Rattle.mc_range.specs.Growing.{IsFed, lacks_room, taker};
 ghost use Rattle.mc_cache.specs.Cache.{IsCache, count_of, ending_in, first_in, in_front, mark_in, ranges_of, weight_in, weight_of, with_current, with_others, with_prepared, without_first, Fewer};
-ghost use Rattle.std.specs.Prelude.{drop};
 ghost use Rattle.mc_journal.specs.declared.record.Cause.TheVariants.{TooMany};
 ghost use Rattle.mc_cache.specs.Joining.{IsJoinedUp};
 ghost use Rattle.mc_cache.specs.Pruning.{Prunes, ahead_in, back_of};

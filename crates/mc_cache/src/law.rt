@@ -12,7 +12,7 @@ ghost use Rattle.mc_packet.specs.declared.choice.Kind.{Kind};
 ghost use Rattle.mc_packet.specs.declared.walk.Mark.{Mark};
 ghost use Rattle.mc_journal.specs.declared.record.Removal.{Removal};
 ghost use Rattle.mc_journal.specs.Told.{Told};
-ghost use Rattle.mc_journal.specs.Choices.{is_distinct, or_else};
+ghost use Rattle.mc_packet.specs.Choices.{is_distinct, or_else};
 ghost use Rattle.mc_journal.specs.Films.{IsRising, rank};
 ghost use Rattle.mc_journal.specs.Ranges.{serves};
 ghost use Rattle.mc_journal.specs.Stands.{chosen, fed, first_that, found_with, left, ranges_of, switched, tidied, found, dropped};

@@ -1,7 +1,7 @@
 ghost use Rattle.std.specs.Prelude.{◌≡◌, ◌+◌, ◌*◌, ◌≤◌, ◌<◌, ◌^◌, ◌++◌, [], ◌∷◌, true, false, Some, None, if◌then◌else◌, length, take, drop, option_map, vec_capacity, vec_len, IfSome, IfNone, IsSomeAnd};
 ghost use Rattle.std.specs.List.{AllByRecursion};
 ghost use Rattle.mc_journal.specs.declared.record.Cause.TheVariants.{TooMany, TrackChanged};
-ghost use Rattle.mc_journal.specs.Choices.{is_distinct, is_empty};
+ghost use Rattle.mc_packet.specs.Choices.{is_distinct, is_empty};
 ghost use Rattle.mc_range.specs.Range.{IsRange, RangeState};
 ghost use Rattle.mc_range.specs.Cutting.{IsCut, weight_from};
 ghost use Rattle.mc_range.specs.Tracks.{retracked};

@@ -1,5 +1,5 @@
 ghost use Rattle.std.specs.Prelude.{◌≡◌, ◌+◌, ◌*◌, ◌≤◌, ◌<◌, ◌++◌, length, option_to_list, vec_capacity, vec_len};
-ghost use Rattle.mc_journal.specs.Choices.{is_track, nothing};
+ghost use Rattle.mc_packet.specs.Choices.{is_track, nothing};
 ghost use Rattle.mc_cache.specs.Removals.{lost_queues, ordered, removals_in, removals_lost, removals_of_all, told_if};
 
 use mc_journal::{Cause, Removal};

@@ -1,6 +1,6 @@
 ghost use Rattle.std.specs.Prelude.{◌≡◌, ◌≤◌, ◌<◌, ◌+◌, ◌^◌, true, [], vec_capacity, IfOk, IfSome, OnErr, OnOk, position};
 ghost use Rattle.mc_range.specs.Range.{AtMark, IsRange, IsRoomier};
-ghost use Rattle.mc_journal.specs.Choices.{is_distinct};
+ghost use Rattle.mc_packet.specs.Choices.{is_distinct};
 ghost use Rattle.mc_cache.specs.Cache.{IsReady, in_front, weight_of};
 ghost use Rattle.mc_cache.specs.Changing.{RoomierIn};
 ghost use Rattle.mc_cache.specs.Rooms.{HasRoomFor, HasSpareFor, MayTake, count_at_all, longer, longer_spans, meets_any, meets_in, meets_then, meets_then_in};

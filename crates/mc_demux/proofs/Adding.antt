@@ -13,7 +13,7 @@ use Rattle.mc_packet.specs.declared.choice.Kind.TheVariants.{Video, Audio, Sub}
 use Rattle.mc_packet.specs.declared.walk.Mark.{Mark}
 use Rattle.mc_packet.specs.declared.cache.Heads.{Heads}
 use Rattle.mc_packet.specs.declared.choice.Starts.{Starts}
-use Rattle.mc_journal.specs.Choices.{has, is_distinct, is_other, is_track, nothing}
+use Rattle.mc_packet.specs.Choices.{has, is_distinct, is_other, is_track, nothing}
 use Rattle.mc_queue.specs.Queue.{QueueState, IsNew}
 use Rattle.mc_range.specs.declared.queues.Queues.{Queues}
 use Rattle.mc_range.specs.Range.{RangeState, AtMark, IsRange, count, place_at, queue_of, weight_in as queue_weight}

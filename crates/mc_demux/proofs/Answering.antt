@@ -12,7 +12,7 @@ use Rattle.mc_packet.specs.declared.walk.Ending.{Ending}
 use Rattle.mc_journal.specs.declared.record.DemuxRecord.{DemuxRecord}
 use Rattle.mc_journal.specs.declared.record.DemuxRecord.TheVariants.{Ended, Overfull as OverfullRecord, Faulted, Wanting as WantingRecord}
 use Rattle.mc_journal.specs.Told.{gave_by}
-use Rattle.mc_journal.specs.Choices.{has}
+use Rattle.mc_packet.specs.Choices.{has}
 use Rattle.mc_journal.specs.Films.{Film}
 use Rattle.mc_journal.specs.Used.{is_still}
 use Rattle.mc_demux.specs.declared.answer.Reading.{Reading}

@@ -2,7 +2,8 @@
 use Rattle.std.proofs.Common.{◌≡◌, ℕ, Bool, Option, Some, None, List, [], refl, inl, inr}
 use Rattle.std.proofs.lemmas.Bool.{cases_Bool}
 use Rattle.mc_packet.specs.declared.choice.Choice.{Choice}
-use Rattle.mc_journal.specs.Choices.{kept_of, kept_track, nothing}
+use Rattle.mc_packet.specs.Choices.{nothing}
+use Rattle.mc_journal.specs.Choices.{kept_of, kept_track}
 use Rattle.mc_range.specs.Range.{RangeState}
 use Rattle.mc_demux.specs.Demuxers.{AreAwaited, IsSelected}
 

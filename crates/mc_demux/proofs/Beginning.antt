@@ -8,7 +8,7 @@ use Rattle.mc_packet.specs.declared.cache.Heads.{Heads}
 use Rattle.mc_packet.specs.declared.cache.Limits.{Limits}
 use Rattle.mc_journal.specs.declared.record.DemuxRecord.{DemuxRecord}
 use Rattle.mc_journal.specs.declared.record.DemuxRecord.TheVariants.{Found}
-use Rattle.mc_journal.specs.Choices.{is_empty, nothing}
+use Rattle.mc_packet.specs.Choices.{is_empty, nothing}
 use Rattle.mc_range.specs.Range.{RangeState, IsRange}
 use Rattle.mc_cache.specs.Cache.{CacheState, IsCache, mark_in, ranges_of, weight_of}
 use Rattle.mc_cache.specs.Changing.{IsSameButRoom}

@@ -7,7 +7,8 @@ use Rattle.mc_packet.specs.declared.packet.Pos.{Pos}
 use Rattle.mc_packet.specs.declared.choice.Choice.{Choice}
 use Rattle.mc_packet.specs.declared.cache.Heads.{Heads}
 use Rattle.mc_packet.specs.declared.walk.Mark.{Mark}
-use Rattle.mc_journal.specs.Choices.{or_else, is_track, has, is_other, is_distinct, of_track, total_of}
+use Rattle.mc_packet.specs.Choices.{or_else, is_track, has, is_other, is_distinct}
+use Rattle.mc_journal.specs.Choices.{of_track, total_of}
 use Rattle.mc_queue.specs.Places.{weights}
 use Rattle.mc_queue.specs.Queue.{QueueState}
 use Rattle.mc_range.specs.declared.queues.Queues.{Queues}

@@ -12,7 +12,8 @@ use Rattle.mc_packet.specs.declared.choice.Choice.{Choice}
 use Rattle.mc_packet.specs.declared.cache.Heads.{Heads}
 use Rattle.mc_packet.specs.declared.walk.Mark.{Mark}
 use Rattle.mc_journal.specs.Told.{Told, told}
-use Rattle.mc_journal.specs.Choices.{is_distinct, each_of, passes}
+use Rattle.mc_packet.specs.Choices.{is_distinct, passes}
+use Rattle.mc_journal.specs.Choices.{each_of}
 use Rattle.mc_journal.specs.Films.{rank, first}
 use Rattle.mc_journal.specs.Ranges.{Range, held}
 use Rattle.mc_journal.specs.Stands.{Stand, cut_in, cut_last, cut_range, holds_any}

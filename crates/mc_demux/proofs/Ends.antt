@@ -11,7 +11,8 @@ use Rattle.mc_journal.specs.declared.record.Sought.TheVariants.{Cached, Sent}
 use Rattle.mc_journal.specs.declared.record.DemuxRecord.{DemuxRecord}
 use Rattle.mc_journal.specs.declared.record.DemuxRecord.TheVariants.{Opened, Sought, Switched, Found, Fed, Failed, Starved, Dropped, Joined, Gave, Ended, Overfull, Faulted, Wanting, Shown, Refused}
 use Rattle.mc_journal.specs.Told.{Told}
-use Rattle.mc_journal.specs.Choices.{is_track, has, meets}
+use Rattle.mc_packet.specs.Choices.{is_track, has}
+use Rattle.mc_journal.specs.Choices.{meets}
 use Rattle.mc_journal.specs.Films.{Film, IsFilm, at, first, first_lane, rank, track_of}
 use Rattle.mc_journal.specs.Ranges.{Range, Span, in_span, within}
 use Rattle.mc_journal.specs.Readings.{selected, pending, waits}

@@ -8,7 +8,7 @@ use Rattle.mc_packet.specs.declared.choice.Starts.{Starts}
 use Rattle.mc_packet.specs.declared.cache.Heads.{Heads}
 use Rattle.mc_packet.specs.declared.walk.Mark.{Mark}
 use Rattle.mc_journal.specs.Told.{Told, told}
-use Rattle.mc_journal.specs.Choices.{or_else, is_track}
+use Rattle.mc_packet.specs.Choices.{or_else, is_track}
 use Rattle.mc_journal.specs.Films.{first_lane, track_of}
 use Rattle.mc_journal.specs.Ranges.{in_span}
 use Rattle.mc_journal.specs.Stands.{empty_span, span_given, start_given}

@@ -14,13 +14,15 @@ use Rattle.mc_packet.specs.declared.choice.Choice.{Choice}
 use Rattle.mc_packet.specs.declared.cache.Heads.{Heads}
 use Rattle.mc_packet.specs.declared.walk.Mark.{Mark}
 use Rattle.mc_journal.specs.Told.{Told, told}
-use Rattle.mc_journal.specs.Choices.{has, is_distinct, each_of, passes}
+use Rattle.mc_packet.specs.Choices.{has, is_distinct, passes}
+use Rattle.mc_journal.specs.Choices.{each_of}
 use Rattle.mc_journal.specs.Films.{at, rank, first, track_of}
 use Rattle.mc_journal.specs.Ranges.{Range, Span, held, in_span, within}
 use Rattle.mc_journal.specs.Stands.{cut_range, cut_span, holds_any}
 use Rattle.mc_journal.specs.Allowed.{Cuts as CutsSpan}
 use Rattle.mc_journal.specs.Used as used
-use Rattle.mc_queue.specs.Places.{place, from_place, weights}
+use Rattle.mc_queue.specs.Places.{place, weights}
+use Rattle.mc_journal.specs.Views.{from_place}
 use Rattle.mc_queue.specs.Queue.{QueueState, IsQueue, next_cut}
 use Rattle.mc_queue.proofs.Rising.{rise_from, less_weight_from}
 use Rattle.mc_range.specs.declared.queues.Queues.{Queues}

@@ -11,7 +11,7 @@ use Rattle.mc_packet.specs.declared.choice.Starts.{Starts}
 use Rattle.mc_packet.specs.declared.cache.Heads.{Heads}
 use Rattle.mc_packet.specs.declared.walk.Ending.{Ending}
 use Rattle.mc_packet.specs.declared.walk.Mark.{Mark}
-use Rattle.mc_journal.specs.Choices.{or_else, is_distinct, is_empty, is_other}
+use Rattle.mc_packet.specs.Choices.{or_else, is_distinct, is_empty, is_other}
 use Rattle.mc_journal.specs.Films.{first_lane, rank}
 use Rattle.mc_journal.specs.Stands.{add_spans, start_given}
 use Rattle.mc_queue.specs.Queue.{QueueState}

@@ -13,7 +13,8 @@ use Rattle.mc_packet.specs.declared.walk.Mark.{Mark}
 use Rattle.mc_journal.specs.declared.record.DemuxRecord.{DemuxRecord}
 use Rattle.mc_journal.specs.declared.record.DemuxRecord.TheVariants.{Fed}
 use Rattle.mc_journal.specs.Told.{Told, told}
-use Rattle.mc_journal.specs.Choices.{or_else, kept_of, kept_track}
+use Rattle.mc_packet.specs.Choices.{or_else}
+use Rattle.mc_journal.specs.Choices.{kept_of, kept_track}
 use Rattle.mc_journal.specs.Films.{Film, at, rank, first, first_lane, track_of}
 use Rattle.mc_journal.specs.Ranges.{Range, within}
 use Rattle.mc_journal.specs.Readings.{failed}

@@ -10,7 +10,8 @@ use Rattle.mc_packet.specs.declared.cache.Heads.{Heads}
 use Rattle.mc_packet.specs.declared.cache.Limits.{Limits}
 use Rattle.mc_journal.specs.declared.record.DemuxRecord.{DemuxRecord}
 use Rattle.mc_journal.specs.declared.record.DemuxRecord.TheVariants.{Found}
-use Rattle.mc_journal.specs.Choices.{or_else, has, is_empty, kept_of, kept_track, meets, nothing, some_of, OnTrack}
+use Rattle.mc_packet.specs.Choices.{or_else, has, is_empty, nothing}
+use Rattle.mc_journal.specs.Choices.{kept_of, kept_track, meets, some_of, OnTrack}
 use Rattle.mc_journal.specs.Films.{Film, IsRegular, start_of, switch_start}
 use Rattle.mc_journal.specs.Readings.{selected, failed, pending, waits, read_from}
 use Rattle.mc_journal.specs.Stands.{stand}

@@ -16,8 +16,8 @@ use Rattle.mc_journal.specs.Films.{Film, at, rank}
 use Rattle.mc_journal.specs.Ranges.{Range, held}
 use Rattle.mc_journal.specs.Readings.{selected}
 use Rattle.mc_journal.specs.Stands.{stand}
-use Rattle.mc_journal.specs.Views.{from_place as from_told, head, forward, forward_in, weight}
-use Rattle.mc_queue.specs.Places.{is_from, from_place, weight_of, weights}
+use Rattle.mc_journal.specs.Views.{from_place as from_told, head, forward, forward_in, weight, from_place}
+use Rattle.mc_queue.specs.Places.{is_from, weight_of, weights}
 use Rattle.mc_queue.specs.Queue.{QueueState}
 use Rattle.mc_range.specs.Range.{RangeState, IsRange, as_range, queue_of}
 use Rattle.mc_range.specs.Serving.{HoldsFilm, packets_in}

@@ -11,7 +11,7 @@ use Rattle.mc_packet.specs.declared.cache.Heads.{Heads}
 use Rattle.mc_packet.specs.declared.cache.Limits.{Limits}
 use Rattle.mc_journal.specs.declared.record.DemuxRecord.{DemuxRecord}
 use Rattle.mc_journal.specs.Told.{Told, told, gave_by}
-use Rattle.mc_journal.specs.Choices.{is_track, has}
+use Rattle.mc_packet.specs.Choices.{is_track, has}
 use Rattle.mc_journal.specs.Films.{Film, at, rank, first, track_of}
 use Rattle.mc_journal.specs.Ranges.{Range, Span, within, in_span}
 use Rattle.mc_journal.specs.Readings.{selected}

@@ -8,7 +8,8 @@ use Rattle.mc_packet.specs.declared.cache.Heads.{Heads}
 use Rattle.mc_packet.specs.declared.walk.Ending.{Ending}
 use Rattle.mc_packet.specs.declared.walk.Mark.{Mark}
 use Rattle.mc_journal.specs.Told.{Told, told}
-use Rattle.mc_journal.specs.Choices.{or_else, is_empty, kept_of, kept_track, lead_of, meets, some_of}
+use Rattle.mc_packet.specs.Choices.{or_else, is_empty, lead_of}
+use Rattle.mc_journal.specs.Choices.{kept_of, kept_track, meets, some_of}
 use Rattle.mc_journal.specs.Films.{Film}
 use Rattle.mc_journal.specs.Ranges.{Range}
 use Rattle.mc_journal.specs.Readings.{failed, pending, selected, waits}

@@ -4,7 +4,7 @@ use Rattle.std.specs.Prelude.{not, nat_le, is_some, IfSome, IsSomeAnd}
 use Rattle.std.proofs.lemmas.Bool.{cases_Bool}
 use Rattle.std.proofs.lemmas.Bool.Decides.{nat_tests}
 use Rattle.mc_packet.specs.declared.choice.Choice.{Choice}
-use Rattle.mc_journal.specs.Choices.{is_empty, nothing}
+use Rattle.mc_packet.specs.Choices.{is_empty, nothing}
 use Rattle.mc_range.specs.Range.{RangeState}
 use Rattle.mc_cache.specs.Cache.{ending_in, mark_in}
 use Rattle.mc_demux.specs.declared.job.Job.{Job}

@@ -6,7 +6,8 @@ use Rattle.std.proofs.lemmas.Bool.{cases_Bool, eqb-true, eq-eqb, and_parts}
 use Rattle.mc_packet.specs.declared.packet.Pos.{Pos}
 use Rattle.mc_packet.specs.declared.choice.Choice.{Choice}
 use Rattle.mc_packet.specs.declared.cache.Heads.{Heads}
-use Rattle.mc_journal.specs.Choices.{is_track, has, is_empty, is_other, kept_of, kept_track, nothing}
+use Rattle.mc_packet.specs.Choices.{is_track, has, is_empty, is_other, nothing}
+use Rattle.mc_journal.specs.Choices.{kept_of, kept_track}
 use Rattle.mc_journal.specs.Ranges.{Range}
 use Rattle.mc_queue.specs.Queue.{QueueState}
 use Rattle.mc_range.specs.Range.{RangeState, IsRange, queue_of, span_of}

@@ -8,7 +8,7 @@ use Rattle.mc_packet.specs.declared.choice.Choice.{Choice}
 use Rattle.mc_packet.specs.declared.choice.Kind.{Kind}
 use Rattle.mc_packet.specs.declared.choice.Kind.TheVariants.{Video, Audio, Sub}
 use Rattle.mc_packet.specs.declared.choice.Why.TheVariants.{UnknownTrack, Unsupported, TwoOfKind}
-use Rattle.mc_journal.specs.Choices.{or_else, passes, is_other, is_distinct, is_known}
+use Rattle.mc_packet.specs.Choices.{or_else, passes, is_other, is_distinct, is_known}
 use Rattle.mc_tracks.specs.declared.track.Track.{Track}
 use Rattle.mc_tracks.specs.TrackList.{numbered, is_of}
 use Rattle.mc_range.specs.Filmed.{same_kinds}

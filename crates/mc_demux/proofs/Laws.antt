@@ -6,7 +6,8 @@ use Rattle.std.proofs.lemmas.Bool.{cases_Bool, eqb-true}
 use Rattle.mc_packet.specs.declared.packet.Packet.{Packet}
 use Rattle.mc_packet.specs.declared.choice.Choice.{Choice}
 use Rattle.mc_journal.specs.Told.{Told, told}
-use Rattle.mc_journal.specs.Choices.{is_track, has, kept_of, kept_track}
+use Rattle.mc_packet.specs.Choices.{is_track, has}
+use Rattle.mc_journal.specs.Choices.{kept_of, kept_track}
 use Rattle.mc_journal.specs.Films.{Film, IsRegular}
 use Rattle.mc_journal.specs.Legal.{IsLegal, IsGapless}
 use Rattle.mc_journal.specs.Readings.{selected}

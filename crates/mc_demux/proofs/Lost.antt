@@ -13,7 +13,7 @@ use Rattle.mc_journal.specs.declared.record.Cause.TheVariants.{TrackChanged}
 use Rattle.mc_journal.specs.declared.record.DemuxRecord.{DemuxRecord}
 use Rattle.mc_journal.specs.declared.record.DemuxRecord.TheVariants.{Switched}
 use Rattle.mc_journal.specs.declared.record.Removal.{Removal}
-use Rattle.mc_journal.specs.Choices.{has, is_empty, is_known, is_track, lead_of}
+use Rattle.mc_packet.specs.Choices.{has, is_empty, is_known, is_track, lead_of}
 use Rattle.mc_queue.specs.Queue.{QueueState}
 use Rattle.mc_range.specs.declared.queues.Queues.{Queues}
 use Rattle.mc_range.specs.Range.{RangeState, count}

@@ -12,8 +12,8 @@ use Rattle.mc_packet.specs.declared.cache.Heads.{Heads}
 use Rattle.mc_journal.specs.Told.{told}
 use Rattle.mc_journal.specs.Films.{rank}
 use Rattle.mc_journal.specs.Ranges.{greatest_time}
-use Rattle.mc_journal.specs.Views.{wants_more}
-use Rattle.mc_queue.specs.Places.{Rise, is_from, from_place}
+use Rattle.mc_journal.specs.Views.{wants_more, from_place}
+use Rattle.mc_queue.specs.Places.{Rise, is_from}
 use Rattle.mc_queue.specs.Queue.{QueueState, IsQueue}
 use Rattle.mc_range.specs.Range.{RangeState, IsRange, queue_of}
 use Rattle.mc_range.specs.Serving.{first_from}

@@ -16,7 +16,7 @@ use Rattle.mc_tracks.specs.declared.track.Track.{Track}
 use Rattle.mc_journal.specs.declared.record.DemuxRecord.{DemuxRecord}
 use Rattle.mc_journal.specs.declared.record.DemuxRecord.TheVariants.{Opened}
 use Rattle.mc_journal.specs.declared.record.Removal.{Removal}
-use Rattle.mc_journal.specs.Choices.{has, is_distinct, is_known, is_track, nothing, passes}
+use Rattle.mc_packet.specs.Choices.{has, is_distinct, is_known, is_track, nothing, passes}
 use Rattle.mc_journal.specs.Films.{Film, first_lane, rank}
 use Rattle.mc_journal.specs.Ranges.{Range, Span}
 use Rattle.mc_journal.specs.Readings.{waits}

@@ -13,9 +13,10 @@ use Rattle.mc_journal.specs.declared.record.DemuxRecord.TheVariants.{Fed}
 use Rattle.mc_demux.specs.Settling.{Settles}
 use Rattle.mc_packet.specs.declared.cache.Limits.{Limits}
 use Rattle.mc_packet.specs.Shape.{HasShape}
-use Rattle.mc_journal.specs.Choices.{nothing}
+use Rattle.mc_packet.specs.Choices.{nothing}
 use Rattle.mc_journal.specs.Films.{rank}
-use Rattle.mc_queue.specs.Places.{from_place, is_from, weight_of as packet_weight, weights}
+use Rattle.mc_journal.specs.Views.{from_place}
+use Rattle.mc_queue.specs.Places.{is_from, weight_of as packet_weight, weights}
 use Rattle.mc_queue.specs.Queue.{QueueState}
 use Rattle.mc_range.specs.Range.{RangeState, IsRange, count, place_at, weight_in as queue_weight}
 use Rattle.mc_range.specs.Growing.{AreApart, ExtendsIn, IsFed, news, of_track, taker}

@@ -7,7 +7,7 @@ use Rattle.mc_packet.specs.declared.packet.Pos.{Pos}
 use Rattle.mc_packet.specs.declared.choice.Choice.{Choice}
 use Rattle.mc_packet.specs.declared.choice.Dir.{Dir}
 use Rattle.mc_packet.specs.declared.cache.Heads.{Heads}
-use Rattle.mc_journal.specs.Choices.{is_track, has, nothing, passes}
+use Rattle.mc_packet.specs.Choices.{is_track, has, nothing, passes}
 use Rattle.mc_journal.specs.Films.{rank, block_of, time_or, video_sync, audio_sync, audio_dir}
 use Rattle.mc_journal.specs.Ranges.{Span, on_span}
 use Rattle.mc_queue.specs.Queue.{QueueState}

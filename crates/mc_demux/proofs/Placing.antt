@@ -6,7 +6,7 @@ use Rattle.mc_packet.specs.declared.packet.Pos.{Pos}
 use Rattle.mc_packet.specs.declared.choice.Choice.{Choice}
 use Rattle.mc_packet.specs.declared.cache.Heads.{Heads}
 use Rattle.mc_packet.specs.declared.walk.Mark.{Mark}
-use Rattle.mc_journal.specs.Choices.{has, is_distinct, is_track, nothing}
+use Rattle.mc_packet.specs.Choices.{has, is_distinct, is_track, nothing}
 use Rattle.mc_queue.specs.Queue.{QueueState}
 use Rattle.mc_range.specs.declared.queues.Queues.{Queues}
 use Rattle.mc_range.specs.Range.{RangeState, IsRange, QueueIn, QueuesIn, own, queue_of}

@@ -12,9 +12,10 @@ use Rattle.mc_packet.specs.declared.choice.Kind.TheVariants.{Video, Audio, Sub}
 use Rattle.mc_packet.specs.declared.choice.Choice.{Choice}
 use Rattle.mc_packet.specs.declared.cache.Heads.{Heads}
 use Rattle.mc_journal.specs.Films.{rank}
-use Rattle.mc_journal.specs.Choices.{or_else}
+use Rattle.mc_packet.specs.Choices.{or_else}
 use Rattle.mc_journal.specs.declared.record.Removal.{Removal}
-use Rattle.mc_queue.specs.Places.{place, from_place, weight_of as packet_weight, weights}
+use Rattle.mc_queue.specs.Places.{place, weight_of as packet_weight, weights}
+use Rattle.mc_journal.specs.Views.{from_place}
 use Rattle.mc_queue.specs.Queue.{QueueState, IsQueue, DropsTo, first_of, next_cut}
 use Rattle.mc_queue.specs.Union.{earlier}
 use Rattle.mc_queue.proofs.Rests.{from_again}

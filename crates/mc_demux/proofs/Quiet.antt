@@ -15,7 +15,8 @@ use Rattle.mc_packet.specs.declared.walk.Ending.{Ending}
 use Rattle.mc_journal.specs.declared.record.DemuxRecord.{DemuxRecord}
 use Rattle.mc_journal.specs.declared.record.DemuxRecord.TheVariants.{Ended, Overfull, Faulted, Wanting, Shown, Refused, Failed, Starved}
 use Rattle.mc_journal.specs.Told.{Told, told}
-use Rattle.mc_journal.specs.Choices.{has, kept_of, kept_track}
+use Rattle.mc_packet.specs.Choices.{has}
+use Rattle.mc_journal.specs.Choices.{kept_of, kept_track}
 use Rattle.mc_journal.specs.Films.{Film}
 use Rattle.mc_journal.specs.Ranges.{Range}
 use Rattle.mc_journal.specs.Readings.{selected, last_fault, failed}

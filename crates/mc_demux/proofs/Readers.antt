@@ -12,9 +12,10 @@ use Rattle.mc_packet.specs.declared.cache.Limits.{Limits}
 use Rattle.mc_packet.specs.declared.walk.Ending.{Ending}
 use Rattle.mc_packet.specs.declared.walk.Mark.{Mark}
 use Rattle.mc_journal.specs.declared.record.DemuxRecord.{DemuxRecord}
-use Rattle.mc_journal.specs.Choices.{is_track, has}
+use Rattle.mc_packet.specs.Choices.{is_track, has}
 use Rattle.mc_journal.specs.Films.{Film, rank}
-use Rattle.mc_queue.specs.Places.{is_from, from_place, weights}
+use Rattle.mc_queue.specs.Places.{is_from, weights}
+use Rattle.mc_journal.specs.Views.{from_place}
 use Rattle.mc_queue.specs.Queue.{QueueState}
 use Rattle.mc_queue.proofs.Rests.{from_again}
 use Rattle.mc_queue.proofs.Rising.{less_weight_from}

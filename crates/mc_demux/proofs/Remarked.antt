@@ -15,7 +15,7 @@ use Rattle.mc_journal.specs.declared.record.DemuxRecord.{DemuxRecord}
 use Rattle.mc_journal.specs.declared.record.DemuxRecord.TheVariants.{Fed, Sought}
 use Rattle.mc_journal.specs.declared.record.Removal.{Removal}
 use Rattle.mc_journal.specs.declared.record.Sought.{Sought as How}
-use Rattle.mc_journal.specs.Choices.{is_empty}
+use Rattle.mc_packet.specs.Choices.{is_empty}
 use Rattle.mc_range.specs.Range.{RangeState, IsBegun, meets_range}
 use Rattle.mc_range.specs.Growing.{IsFed}
 use Rattle.mc_range.specs.Joining.{greater}

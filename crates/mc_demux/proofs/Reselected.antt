@@ -20,7 +20,7 @@ use Rattle.mc_journal.specs.declared.record.Removal.{Removal}
 use Rattle.mc_journal.specs.declared.record.Sought.TheVariants.{Sent}
 use Rattle.mc_journal.specs.declared.record.DemuxRecord.{DemuxRecord}
 use Rattle.mc_journal.specs.declared.record.DemuxRecord.TheVariants.{Sought, Switched}
-use Rattle.mc_journal.specs.Choices.{has, is_empty, is_known, lead_of, nothing, or_else}
+use Rattle.mc_packet.specs.Choices.{has, is_empty, is_known, lead_of, nothing, or_else}
 use Rattle.mc_journal.specs.Films.{Film, rank}
 use Rattle.mc_journal.specs.Readings.{selected, pending}
 use Rattle.mc_journal.specs.Stands.{Stand, stand, switched}

@@ -5,15 +5,16 @@ use Rattle.std.specs.List.{filter, find, AllByRecursion}
 use Rattle.std.proofs.lemmas.Bool.{cases_Bool, eq-eqb}
 use Rattle.std.proofs.lemmas.Bool.Decides.{nat_tests}
 use Rattle.mc_journal.specs.Told.{told}
-use Rattle.mc_journal.specs.Views.{wants_more}
+use Rattle.mc_journal.specs.Views.{wants_more, from_place}
 use Rattle.mc_packet.specs.declared.packet.Packet.{Packet}
 use Rattle.mc_packet.specs.declared.packet.Pos.{Pos}
 use Rattle.mc_packet.specs.declared.choice.Choice.{Choice}
 use Rattle.mc_packet.specs.declared.cache.Heads.{Heads}
 use Rattle.mc_packet.specs.declared.walk.Ending.{Ending}
-use Rattle.mc_journal.specs.Choices.{or_else, is_track, has, is_empty, lead_of, meets, of_track, total_of}
+use Rattle.mc_packet.specs.Choices.{or_else, is_track, has, is_empty, lead_of}
+use Rattle.mc_journal.specs.Choices.{meets, of_track, total_of}
 use Rattle.mc_journal.specs.Films.{rank}
-use Rattle.mc_queue.specs.Places.{is_from, from_place, weights}
+use Rattle.mc_queue.specs.Places.{is_from, weights}
 use Rattle.mc_queue.specs.Queue.{QueueState}
 use Rattle.mc_range.specs.Range.{RangeState, queue_of}
 use Rattle.mc_cache.specs.Cache.{ending_in, mark_in, in_front}

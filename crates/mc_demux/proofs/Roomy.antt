@@ -10,7 +10,8 @@ use Rattle.mc_packet.specs.declared.walk.Ending.{Ending}
 use Rattle.mc_packet.specs.declared.walk.Mark.{Mark}
 use Rattle.mc_journal.specs.declared.record.Removal.{Removal}
 use Rattle.mc_journal.specs.Films.{rank}
-use Rattle.mc_queue.specs.Places.{from_place, weights}
+use Rattle.mc_journal.specs.Views.{from_place}
+use Rattle.mc_queue.specs.Places.{weights}
 use Rattle.mc_queue.specs.Queue.{QueueState}
 use Rattle.mc_range.specs.Range.{RangeState, IsRange, Roomier}
 use Rattle.mc_range.specs.Cutting.{weight_ahead}

@@ -12,7 +12,7 @@ use Rattle.mc_packet.specs.declared.cache.Heads.{Heads}
 use Rattle.mc_packet.specs.declared.walk.Mark.{Mark}
 use Rattle.mc_journal.specs.declared.record.DemuxRecord.{DemuxRecord}
 use Rattle.mc_journal.specs.Told.{Told, told}
-use Rattle.mc_journal.specs.Choices.{or_else, has}
+use Rattle.mc_packet.specs.Choices.{or_else, has}
 use Rattle.mc_journal.specs.Films.{Film, at, rank}
 use Rattle.mc_journal.specs.Readings.{selected, pending, target, direction, failed}
 use Rattle.mc_journal.specs.Views.{next}

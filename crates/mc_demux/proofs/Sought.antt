@@ -11,7 +11,7 @@ use Rattle.mc_journal.specs.declared.record.Sought.{Sought as How}
 use Rattle.mc_journal.specs.declared.record.Sought.TheVariants.{Cached, Sent}
 use Rattle.mc_journal.specs.declared.record.DemuxRecord.{DemuxRecord}
 use Rattle.mc_journal.specs.declared.record.DemuxRecord.TheVariants.{Sought}
-use Rattle.mc_journal.specs.Choices.{is_distinct, nothing, is_known}
+use Rattle.mc_packet.specs.Choices.{is_distinct, nothing, is_known}
 use Rattle.mc_journal.specs.Allowed.{how_by}
 use Rattle.mc_range.specs.Range.{RangeState, IsRange}
 use Rattle.mc_range.specs.Serving.{heads_of}

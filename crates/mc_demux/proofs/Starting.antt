@@ -11,7 +11,7 @@ use Rattle.mc_packet.specs.declared.cache.Heads.{Heads}
 use Rattle.mc_journal.specs.declared.record.Cause.{Cause}
 use Rattle.mc_journal.specs.declared.record.Cause.TheVariants.{TooMany}
 use Rattle.mc_journal.specs.declared.record.Removal.{Removal}
-use Rattle.mc_journal.specs.Choices.{is_empty, nothing}
+use Rattle.mc_packet.specs.Choices.{is_empty, nothing}
 use Rattle.mc_journal.specs.Used.{least_start}
 use Rattle.mc_queue.specs.Queue.{QueueState}
 use Rattle.mc_range.specs.Range.{RangeState, AtMark, IsBegun, IsRange, StartsAt, count}

@@ -7,7 +7,7 @@ use Rattle.mc_packet.specs.declared.walk.Chunk.{Chunk}
 use Rattle.mc_packet.specs.declared.walk.Mark.{Mark}
 use Rattle.mc_journal.specs.declared.record.DemuxRecord.{DemuxRecord}
 use Rattle.mc_journal.specs.declared.record.DemuxRecord.TheVariants.{Fed, Found}
-use Rattle.mc_journal.specs.Choices.{or_else, nothing}
+use Rattle.mc_packet.specs.Choices.{or_else, nothing}
 use Rattle.mc_journal.specs.Films.{Film}
 use Rattle.mc_queue.specs.Queue.{QueueState}
 use Rattle.mc_range.specs.Range.{RangeState, Roomier}

@@ -10,7 +10,8 @@ use Rattle.mc_journal.specs.Films.{rank}
 use Rattle.mc_journal.specs.declared.record.Cause.{Cause}
 use Rattle.mc_journal.specs.declared.record.Cause.TheVariants.{Mismatch}
 use Rattle.mc_journal.specs.declared.record.Removal.{Removal}
-use Rattle.mc_queue.specs.Places.{Rise, before, from_place, is_before, is_from, place}
+use Rattle.mc_queue.specs.Places.{Rise, before, is_before, is_from, place}
+use Rattle.mc_journal.specs.Views.{from_place}
 use Rattle.mc_queue.specs.Queue.{QueueState, IsQueue}
 use Rattle.mc_queue.specs.Union.{united, in_front, behind_all}
 use Rattle.mc_range.specs.Range.{RangeState, IsRange, IsRoomier, QueueIn, Roomier, count, meets_range}

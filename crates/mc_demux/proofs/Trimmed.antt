@@ -11,11 +11,12 @@ use Rattle.mc_packet.specs.declared.cache.Limits.{Limits}
 use Rattle.mc_packet.specs.declared.walk.Ending.{Ending}
 use Rattle.mc_packet.specs.declared.walk.Mark.{Mark}
 use Rattle.mc_journal.specs.Films.{rank}
-use Rattle.mc_journal.specs.Choices.{or_else, has, nothing}
+use Rattle.mc_packet.specs.Choices.{or_else, has, nothing}
 use Rattle.mc_journal.specs.declared.record.DemuxRecord.{DemuxRecord}
 use Rattle.mc_journal.specs.declared.record.DemuxRecord.TheVariants.{Dropped}
 use Rattle.mc_journal.specs.declared.record.Removal.{Removal}
-use Rattle.mc_queue.specs.Places.{from_place, weights}
+use Rattle.mc_journal.specs.Views.{from_place}
+use Rattle.mc_queue.specs.Places.{weights}
 use Rattle.mc_queue.specs.Queue.{QueueState}
 use Rattle.mc_range.specs.declared.queues.Queues.{Queues}
 use Rattle.mc_range.specs.Range.{RangeState, own, queue_of}

@@ -13,7 +13,7 @@ use Rattle.mc_journal.specs.declared.record.Sought.TheVariants.{Cached, Sent}
 use Rattle.mc_journal.specs.declared.record.DemuxRecord.{DemuxRecord}
 use Rattle.mc_journal.specs.declared.record.DemuxRecord.TheVariants.{Sought, Refused}
 use Rattle.mc_journal.specs.Told.{Told}
-use Rattle.mc_journal.specs.Choices.{is_distinct, is_empty, nothing}
+use Rattle.mc_packet.specs.Choices.{is_distinct, is_empty, nothing}
 use Rattle.mc_journal.specs.Films.{Film}
 use Rattle.mc_journal.specs.Ranges.{Range, serves as film_serves, served_head}
 use Rattle.mc_journal.specs.Stands.{Stand, stand, first_that, chosen, left, tidied, ranges_of as stand_ranges}

@@ -10,7 +10,8 @@ use Rattle.mc_packet.specs.declared.walk.Ending.{Ending}
 use Rattle.mc_journal.specs.declared.record.DemuxRecord.{DemuxRecord}
 use Rattle.mc_journal.specs.declared.record.DemuxRecord.TheVariants.{Opened, Sought, Gave, Ended, Shown}
 use Rattle.mc_journal.specs.Told.{Told}
-use Rattle.mc_journal.specs.Choices.{each_of, has, is_empty, is_track, kept_of, kept_track, lead_of, passes}
+use Rattle.mc_packet.specs.Choices.{has, is_empty, is_track, lead_of, passes}
+use Rattle.mc_journal.specs.Choices.{each_of, kept_of, kept_track}
 use Rattle.mc_journal.specs.Films.{Film}
 use Rattle.mc_journal.specs.Stands.{Stand, stand, ranges_of as stand_ranges}
 use Rattle.mc_journal.specs.Used.{is_still}

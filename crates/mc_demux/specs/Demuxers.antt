@@ -4,7 +4,7 @@ use Rattle.std.specs.List.{AllByRecursion}
 use Rattle.mc_packet.specs.declared.choice.Choice.{Choice}
 use Rattle.mc_packet.specs.declared.cache.Heads.{Heads}
 use Rattle.mc_packet.specs.declared.cache.Limits.{Limits}
-use Rattle.mc_journal.specs.Choices.{has, is_empty, is_distinct, is_known, nothing}
+use Rattle.mc_packet.specs.Choices.{has, is_empty, is_distinct, is_known, nothing}
 use Rattle.mc_range.specs.Range.{RangeState, queue_of}
 use Rattle.mc_cache.specs.Cache.{CacheState, IsCache, ranges_of, weight_of}
 use Rattle.mc_demux.specs.declared.job.Job.{Job}

@@ -8,7 +8,8 @@ use Rattle.mc_packet.specs.declared.cache.Heads.{Heads}
 use Rattle.mc_packet.specs.declared.cache.Limits.{Limits}
 use Rattle.mc_journal.specs.declared.record.DemuxRecord.{DemuxRecord}
 use Rattle.mc_journal.specs.declared.record.DemuxRecord.TheVariants.{Failed as FailedRecord, Starved as StarvedRecord}
-use Rattle.mc_journal.specs.Choices.{has, kept_of}
+use Rattle.mc_packet.specs.Choices.{has}
+use Rattle.mc_journal.specs.Choices.{kept_of}
 use Rattle.mc_journal.specs.Films.{Film, IsFilm, IsRegular, first_lane, rank, start_of, switch_start}
 use Rattle.mc_journal.specs.Told.{told}
 use Rattle.mc_journal.specs.Ranges.{within}

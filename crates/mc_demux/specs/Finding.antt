@@ -8,7 +8,7 @@ use Rattle.mc_packet.specs.declared.walk.Mark.{Mark}
 use Rattle.mc_journal.specs.declared.record.DemuxRecord.{DemuxRecord}
 use Rattle.mc_journal.specs.declared.record.DemuxRecord.TheVariants.{Found}
 use Rattle.mc_journal.specs.declared.record.Removal.{Removal}
-use Rattle.mc_journal.specs.Choices.{nothing}
+use Rattle.mc_packet.specs.Choices.{nothing}
 use Rattle.mc_range.specs.Range.{RangeState}
 use Rattle.mc_cache.specs.Cache.{CacheState, IsCache}
 use Rattle.mc_cache.specs.Changing.{AddsTrack, IsStarted, MayAdd}

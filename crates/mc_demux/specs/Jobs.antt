@@ -5,9 +5,9 @@ use Rattle.mc_packet.specs.declared.choice.Choice.{Choice}
 use Rattle.mc_packet.specs.declared.cache.Heads.{Heads}
 use Rattle.mc_packet.specs.declared.walk.Mark.{Mark}
 use Rattle.mc_journal.specs.Told.{told}
-use Rattle.mc_journal.specs.Choices.{is_empty, lead_of, meets}
-use Rattle.mc_journal.specs.Views.{wants_more}
-use Rattle.mc_queue.specs.Places.{from_place}
+use Rattle.mc_packet.specs.Choices.{is_empty, lead_of}
+use Rattle.mc_journal.specs.Choices.{meets}
+use Rattle.mc_journal.specs.Views.{wants_more, from_place}
 use Rattle.mc_queue.specs.Queue.{QueueState}
 use Rattle.mc_packet.specs.declared.packet.Pos.{Pos}
 use Rattle.mc_journal.specs.Films.{rank}

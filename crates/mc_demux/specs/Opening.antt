@@ -10,7 +10,7 @@ use Rattle.mc_packet.specs.declared.walk.Level.TheVariants.{Segment}
 use Rattle.mc_packet.specs.declared.walk.Mark.{Mark}
 use Rattle.mc_tracks.specs.declared.track.Track.{Track}
 use Rattle.mc_journal.specs.declared.record.DemuxRecord.TheVariants.{Opened}
-use Rattle.mc_journal.specs.Choices.{is_known, nothing}
+use Rattle.mc_packet.specs.Choices.{is_known, nothing}
 use Rattle.mc_journal.specs.Films.{Film, IsFilm}
 use Rattle.mc_range.specs.Range.{IsBegun}
 use Rattle.mc_demux.specs.declared.answer.DemuxError.{DemuxError}

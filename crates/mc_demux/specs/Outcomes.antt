@@ -10,7 +10,7 @@ use Rattle.mc_packet.specs.declared.walk.Chunk.{Chunk}
 use Rattle.mc_packet.specs.declared.walk.Mark.{Mark}
 use Rattle.mc_journal.specs.declared.record.DemuxRecord.{DemuxRecord}
 use Rattle.mc_journal.specs.declared.record.DemuxRecord.TheVariants.{Found, Fed, Failed, Starved}
-use Rattle.mc_journal.specs.Choices.{or_else, nothing}
+use Rattle.mc_packet.specs.Choices.{or_else, nothing}
 use Rattle.mc_journal.specs.Used.{place_of_starts}
 use Rattle.mc_range.specs.Range.{RangeState, place_at}
 use Rattle.mc_range.specs.Growing.{taker}

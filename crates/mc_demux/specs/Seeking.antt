@@ -8,7 +8,7 @@ use Rattle.mc_packet.specs.declared.cache.Heads.{Heads}
 use Rattle.mc_journal.specs.declared.record.Sought.{Sought as How}
 use Rattle.mc_journal.specs.declared.record.Sought.TheVariants.{Cached, Sent}
 use Rattle.mc_journal.specs.declared.record.DemuxRecord.TheVariants.{Sought, Refused as RefusedRecord}
-use Rattle.mc_journal.specs.Choices.{is_empty, nothing}
+use Rattle.mc_packet.specs.Choices.{is_empty, nothing}
 use Rattle.mc_journal.specs.Allowed.{how_by}
 use Rattle.mc_cache.specs.Cache.{CacheState, IsCache}
 use Rattle.mc_cache.specs.Changing.{IsChosen, IsLeft, heads_in, server}

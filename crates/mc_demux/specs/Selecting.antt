@@ -11,7 +11,8 @@ use Rattle.mc_journal.specs.declared.record.DemuxRecord.{DemuxRecord}
 use Rattle.mc_journal.specs.declared.record.DemuxRecord.TheVariants.{Dropped, Sought, Switched}
 use Rattle.mc_journal.specs.declared.record.Removal.{Removal}
 use Rattle.mc_journal.specs.declared.record.Sought.TheVariants.{Sent}
-use Rattle.mc_journal.specs.Choices.{or_else, has, kept_of, lead_of, nothing}
+use Rattle.mc_packet.specs.Choices.{or_else, has, lead_of, nothing}
+use Rattle.mc_journal.specs.Choices.{kept_of}
 use Rattle.mc_tracks.specs.declared.track.Track.{Track}
 use Rattle.mc_tracks.specs.TrackList.{numbered, is_of}
 use Rattle.mc_cache.specs.Cache.{CacheState, IsCache}

@@ -8,9 +8,10 @@ use Rattle.mc_packet.specs.declared.cache.Heads.{Heads}
 use Rattle.mc_packet.specs.declared.walk.Ending.{Ending}
 use Rattle.mc_tracks.specs.declared.track.Track.{Track}
 use Rattle.mc_journal.specs.declared.record.DemuxRecord.{DemuxRecord}
-use Rattle.mc_journal.specs.Choices.{is_track, has}
+use Rattle.mc_packet.specs.Choices.{is_track, has}
 use Rattle.mc_journal.specs.Films.{rank}
-use Rattle.mc_queue.specs.Places.{is_from, from_place}
+use Rattle.mc_queue.specs.Places.{is_from}
+use Rattle.mc_journal.specs.Views.{from_place}
 use Rattle.mc_queue.specs.Queue.{QueueState}
 use Rattle.mc_range.specs.Range.{RangeState, queue_of}
 use Rattle.mc_cache.specs.Cache.{CacheState}

@@ -5,7 +5,8 @@ use Rattle.mc_packet.specs.declared.cache.Status.{Status}
 use Rattle.mc_packet.specs.declared.walk.Ending.{Ending}
 use Rattle.mc_journal.specs.declared.record.DemuxRecord.{DemuxRecord}
 use Rattle.mc_journal.specs.declared.record.DemuxRecord.TheVariants.{Opened, Sought, Gave, Ended, Shown}
-use Rattle.mc_journal.specs.Choices.{each_of, has, is_empty, is_track, lead_of}
+use Rattle.mc_packet.specs.Choices.{has, is_empty, is_track, lead_of}
+use Rattle.mc_journal.specs.Choices.{each_of}
 use Rattle.mc_journal.specs.Views.{plays, time_of}
 use Rattle.mc_cache.specs.Cache.{ending_in, ranges_of}
 use Rattle.mc_cache.specs.Shown.{view_of as cache_view}

@@ -1,6 +1,6 @@
 //! The job that is to be done next.
 ghost use Rattle.std.specs.Prelude.{◌≡◌, ◌≤◌, OnOk};
-ghost use Rattle.mc_journal.specs.Choices.{is_empty};
+ghost use Rattle.mc_packet.specs.Choices.{is_empty};
 ghost use Rattle.mc_journal.specs.Films.{Film};
 ghost use Rattle.mc_demux.specs.Asking.{Asks};
 ghost use Rattle.mc_demux.specs.Demuxers.{IsDemux};

@@ -1,6 +1,6 @@
 //! Starts that were found.
 ghost use Rattle.std.specs.Prelude.{◌≡◌, ◌≤◌, ◌+◌, ◌∷◌, true, IfNone, IfSome, IsSomeAnd, OnOk, OnErr, vec_len, vec_capacity};
-ghost use Rattle.mc_journal.specs.Choices.{is_distinct};
+ghost use Rattle.mc_packet.specs.Choices.{is_distinct};
 ghost use Rattle.mc_journal.specs.Films.{Film};
 ghost use Rattle.mc_range.specs.Range.{AtMark};
 ghost use Rattle.mc_cache.specs.Cache.{IsCache, count_of, ranges_of};

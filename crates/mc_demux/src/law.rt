@@ -1,7 +1,7 @@
 //! What it means for readers that a demuxer stands for a film: laws over every film and every
 //! state of a demuxer.
 ghost use Rattle.std.specs.Prelude.{◌≡◌, ℕ, true, None, reverse};
-ghost use Rattle.mc_journal.specs.Choices.{has};
+ghost use Rattle.mc_packet.specs.Choices.{has};
 ghost use Rattle.mc_journal.specs.Films.{Film, IsRegular};
 ghost use Rattle.mc_journal.specs.Legal.{IsLegal, IsGapless};
 ghost use Rattle.mc_journal.specs.Used.{IsUsed};

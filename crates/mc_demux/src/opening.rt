@@ -1,7 +1,7 @@
 //! A demuxer that was just made.
 ghost use Rattle.std.specs.Prelude.{◌≡◌, IfOk, IsSomeAnd, None, true, []};
 ghost use Rattle.std.specs.Option.{option_map};
-ghost use Rattle.mc_journal.specs.Choices.{is_distinct};
+ghost use Rattle.mc_packet.specs.Choices.{is_distinct};
 ghost use Rattle.mc_journal.specs.Films.{Film};
 ghost use Rattle.mc_range.specs.Range.{IsBegun};
 ghost use Rattle.mc_cache.specs.Cache.{IsCache};

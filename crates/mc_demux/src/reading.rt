@@ -1,6 +1,6 @@
 ghost use Rattle.std.specs.Prelude.{◌≡◌, ◌≤◌, ◌<◌, ◌+◌, ◌^◌, true, List, ◌++◌, ◌∷◌, [], IfOk, IfSome, OnOk, OnErr, nat_le, if◌then◌else◌, None};
 ghost use Rattle.std.specs.Option.{option_copied};
-ghost use Rattle.mc_journal.specs.Choices.{has, is_track};
+ghost use Rattle.mc_packet.specs.Choices.{has, is_track};
 ghost use Rattle.mc_journal.specs.Films.{Film, rank};
 ghost use Rattle.mc_cache.specs.Cache.{count_of, ranges_of};
 ghost use Rattle.mc_cache.specs.Pruning.{ahead_in};

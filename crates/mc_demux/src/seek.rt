@@ -1,7 +1,7 @@
 //! Seeks: answered from the cache where a range serves them, else sent on.
 ghost use Rattle.std.specs.Prelude.{◌≡◌, ◌≤◌, ◌+◌, ◌++◌, ◌∷◌, [], false, OnOk, OnErr, is_some};
 ghost use Rattle.mc_journal.specs.Allowed.{how_by};
-ghost use Rattle.mc_journal.specs.Choices.{is_empty, nothing};
+ghost use Rattle.mc_packet.specs.Choices.{is_empty, nothing};
 ghost use Rattle.mc_journal.specs.Films.{Film};
 ghost use Rattle.mc_cache.specs.Cache.{IsCache, count_of, ranges_of};
 ghost use Rattle.mc_cache.specs.Changing.{heads_in, server};

@@ -1,6 +1,7 @@
 //! Other tracks are selected.
 ghost use Rattle.std.specs.Prelude.{◌≡◌, ◌≤◌, ◌<◌, ◌+◌, ◌++◌, ◌∷◌, true, length, not, ◌||◌, OnOk, OnErr, vec_capacity, vec_len};
-ghost use Rattle.mc_journal.specs.Choices.{has, is_known, kept_track};
+ghost use Rattle.mc_packet.specs.Choices.{has, is_known};
+ghost use Rattle.mc_journal.specs.Choices.{kept_track};
 ghost use Rattle.mc_journal.specs.Films.{Film};
 ghost use Rattle.mc_cache.specs.Cache.{count_of, ranges_of};
 ghost use Rattle.mc_demux.specs.Demuxers.{IsDemux};

@@ -4,7 +4,7 @@ ghost use Rattle.std.specs.Prelude.{◌≡◌, ℕ, None, ◌&&◌, ◌||◌, no
 ghost use Rattle.std.specs.Option.{option_map};
 ghost use Rattle.mc_packet.specs.declared.packet.Packet.{Packet};
 ghost use Rattle.mc_journal.specs.declared.record.DemuxRecord.{DemuxRecord};
-ghost use Rattle.mc_journal.specs.Choices.{has};
+ghost use Rattle.mc_packet.specs.Choices.{has};
 ghost use Rattle.mc_journal.specs.Films.{Film, at, rank};
 ghost use Rattle.mc_journal.specs.Readings.{selected, failed};
 ghost use Rattle.mc_journal.specs.Used.{can_end};

@@ -1,7 +1,8 @@
 //! What is told of a demuxer.
 ghost use Rattle.std.specs.Prelude.{◌≡◌, ◌≤◌, IfOk, OnErr, OnOk, is_some, find, reverse};
 ghost use Rattle.std.specs.Option.{option_copied};
-ghost use Rattle.mc_journal.specs.Choices.{each_of, has, lead_of, passes};
+ghost use Rattle.mc_packet.specs.Choices.{has, lead_of, passes};
+ghost use Rattle.mc_journal.specs.Choices.{each_of};
 ghost use Rattle.mc_journal.specs.Films.{Film};
 ghost use Rattle.mc_journal.specs.Views.{plays, time_of, view};
 ghost use Rattle.mc_demux.specs.Demuxers.{IsDemux};

@@ -5,7 +5,7 @@ use Rattle.std.specs.Option.{option_map}
 use Rattle.mc_packet.specs.declared.choice.Dir.{Dir}
 use Rattle.mc_packet.specs.declared.choice.Dir.TheVariants.{Back, Forward}
 use Rattle.mc_walk.specs.declared.plan.Plan.{Plan}
-use Rattle.mc_journal.specs.Choices.{or_else}
+use Rattle.mc_packet.specs.Choices.{or_else}
 use Rattle.mc_journal.specs.Films.{TimesRise, first, last, last_upto, first_from, sync_for, track_sync, time_or}
 use Rattle.mc_journal.specs.Told.{Told}
 use Rattle.mc_index.specs.declared.entry.Point.{Point}

@@ -12,7 +12,7 @@ use Rattle.mc_walk.specs.Walk.{Rest}
 use Rattle.mc_cursor.specs.declared.head.HeadChunk.{HeadChunk}
 use Rattle.mc_cursor.specs.Heads.{head_chunk_of}
 use Rattle.mc_cursor.specs.Standing.{ReadsPart}
-use Rattle.mc_journal.specs.Choices.{or_else}
+use Rattle.mc_packet.specs.Choices.{or_else}
 use Rattle.mc_journal.specs.Films.{TimesRise, first, last, syncs}
 use Rattle.mc_journal.specs.Told.{Told, told}
 use Rattle.mc_index.specs.declared.entry.Point.{Point}

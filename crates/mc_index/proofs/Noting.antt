@@ -12,7 +12,7 @@ use Rattle.mc_walk.specs.Glances.{block_mark, first_mark}
 use Rattle.mc_walk.specs.Parts.{mark, part_at, chunk_at}
 use Rattle.mc_cursor.specs.declared.head.HeadChunk.{HeadChunk}
 use Rattle.mc_cursor.specs.Heads.{head_chunk_of}
-use Rattle.mc_journal.specs.Choices.{or_else}
+use Rattle.mc_packet.specs.Choices.{or_else}
 use Rattle.mc_journal.specs.Films.{last, syncs}
 use Rattle.mc_journal.specs.Told.{Told, told}
 use Rattle.mc_index.specs.declared.entry.Point.{Point}

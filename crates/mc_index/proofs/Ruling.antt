@@ -10,7 +10,7 @@ use Rattle.mc_packet.specs.declared.choice.Dir.{Dir}
 use Rattle.mc_packet.specs.declared.choice.Dir.TheVariants.{Back}
 use Rattle.mc_packet.specs.declared.packet.Packet.{Packet}
 use Rattle.mc_walk.specs.declared.plan.Plan.{Plan}
-use Rattle.mc_journal.specs.Choices.{passes, is_known, is_distinct, is_other, is_track}
+use Rattle.mc_packet.specs.Choices.{passes, is_known, is_distinct, is_other, is_track}
 use Rattle.mc_journal.specs.Films.{IsRegular, is_listed, block_of, time_or, sync_for, track_sync, video_sync, audio_sync, audio_dir, least_of, start_of, last_for, switch_start, film_syncs}
 use Rattle.mc_journal.specs.Films.{start_by as rule_start}
 use Rattle.mc_journal.specs.Told.{Told}

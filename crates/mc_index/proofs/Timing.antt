@@ -4,7 +4,7 @@ use Rattle.std.specs.Prelude.{not, ◌||◌, ◌<ℤ◌, int_le, IfSome}
 use Rattle.std.specs.Option.{option_map}
 use Rattle.std.specs.List.{AllByRecursion}
 use Rattle.mc_walk.specs.declared.plan.Plan.{Plan}
-use Rattle.mc_journal.specs.Choices.{or_else}
+use Rattle.mc_packet.specs.Choices.{or_else}
 use Rattle.mc_journal.specs.Films.{TimesRise, last}
 use Rattle.mc_journal.specs.Told.{Told}
 use Rattle.mc_index.specs.declared.entry.Point.{Point}

@@ -9,7 +9,7 @@ use Rattle.mc_packet.specs.declared.walk.Mark.{Mark}
 use Rattle.mc_walk.specs.declared.plan.Plan.{Plan}
 use Rattle.mc_walk.specs.Walk.{film_walk}
 use Rattle.mc_journal.specs.Told.{Told}
-use Rattle.mc_journal.specs.Choices.{is_known, passes}
+use Rattle.mc_packet.specs.Choices.{is_known, passes}
 use Rattle.mc_journal.specs.Films.{IsRegular, is_listed, syncs, first, last, film_syncs, video_sync, time_or, start_of, switch_start}
 use Rattle.mc_journal.specs.Used.{place_of_starts}
 use Rattle.mc_index.specs.declared.entry.Point.{Point}

@@ -10,7 +10,8 @@ use Rattle.mc_packet.specs.declared.walk.Mark.{Mark}
 use Rattle.mc_walk.specs.declared.plan.Plan.{Plan}
 use Rattle.mc_walk.specs.Parts.{opening_mark}
 use Rattle.mc_cursor.specs.declared.head.HeadChunk.{HeadChunk}
-use Rattle.mc_journal.specs.Choices.{or_else, OnTrack}
+use Rattle.mc_packet.specs.Choices.{or_else}
+use Rattle.mc_journal.specs.Choices.{OnTrack}
 use Rattle.mc_journal.specs.Films.{TimesRise, audio_dir}
 use Rattle.mc_index.specs.declared.entry.Point.{Point}
 use Rattle.mc_index.specs.declared.entry.LastSync.{LastSync}

@@ -1,5 +1,5 @@
 ghost use Rattle.std.specs.Prelude.{◌≡◌, nat_le};
-ghost use Rattle.mc_journal.specs.Choices.{or_else};
+ghost use Rattle.mc_packet.specs.Choices.{or_else};
 ghost use Rattle.mc_journal.specs.Films.{audio_dir};
 ghost use Rattle.mc_index.specs.Answers.{needed_lead};
 ghost use Rattle.mc_index.specs.Searches.{is_at, chosen, point_time, point_mark, track_mark, least_mark, mark_or_opening, start_by, starts_by, sub_mark, seek_starts, reference, seek_of, switch_of};

@@ -7,15 +7,15 @@ use Rattle.std.proofs.lemmas.Bool.Decides.{nat_tests}
 use Rattle.mc_packet.specs.declared.choice.Choice.{Choice}
 use Rattle.mc_packet.specs.declared.choice.Dir.{Dir}
 use Rattle.mc_packet.specs.declared.choice.Dir.TheVariants.{Back, Forward}
-use Rattle.mc_journal.specs.Told.{Told}
-use Rattle.mc_journal.specs.Choices.{or_else, is_track, has, lead_of, passes}
+use Rattle.mc_packet.specs.declared.packet.Packet.{Packet}
+use Rattle.mc_packet.specs.Choices.{or_else, is_track, has, lead_of, passes}
 use Rattle.mc_journal.specs.Films.{at, rank, first, last, first_lane, HasLanes, syncs, last_upto, first_from, sync_for, block_of, track_sync, least_of, video_sync, audio_sync, audio_dir, time_or}
 use Rattle.mc_journal.specs.Ranges.{Span, Range, in_span, within, held_syncs, any_from, any_below, is_upto, served, on_span, served_track, served_sub, serves, served_head}
 use Rattle.mc_journal.proofs.Lists.{all_kept, or_else-cases}
 use Rattle.mc_journal.proofs.Within.{within-low}
 use Rattle.mc_journal.proofs.Onward.{first_from-all, last-all}
 
-last_upto-all : (Q : Told → Type 0) (t : ℤ) (ps : List Told) (s : Told) → AllByRecursion Q ps → last_upto t ps ≡ Some s → Q s
+last_upto-all : (Q : Packet → Type 0) (t : ℤ) (ps : List Packet) (s : Packet) → AllByRecursion Q ps → last_upto t ps ≡ Some s → Q s
 last_upto-all Q t [] s all h = absurd (cc)
 last_upto-all Q t (p ∷ ps) s all h = elim (or_else-cases (last_upto t ps) (if int_le p.time t then Some p else None) s h) [
   | inl there ↦ last_upto-all Q t ps s all.1 there
@@ -26,10 +26,10 @@ last_upto-all Q t (p ∷ ps) s all h = elim (or_else-cases (last_upto t ps) (if 
 ]
 
 -- a sync point stands in lane 0 of its block
-abbrev IsFirst : Told → Type 0
+abbrev IsFirst : Packet → Type 0
 IsFirst p = at p ≡ first_lane p.pos.block
 
-syncs-first : (k : ℕ) (ps : List Told) → AllByRecursion HasLanes ps → AllByRecursion IsFirst (syncs k ps)
+syncs-first : (k : ℕ) (ps : List Packet) → AllByRecursion HasLanes ps → AllByRecursion IsFirst (syncs k ps)
 unfolding rank first_lane
 syncs-first k [] h = tt
 syncs-first k (p ∷ ps) h =
@@ -42,11 +42,11 @@ syncs-first k (p ∷ ps) h =
     ]
 
 -- of a queue's sync points: it begins at or before each, and each stands in lane 0
-low_first : (from : ℕ) (s : Told) → from ≤ at s → IsFirst s → from ≤ first_lane (block_of (Some s))
+low_first : (from : ℕ) (s : Packet) → from ≤ at s → IsFirst s → from ≤ first_lane (block_of (Some s))
 low_first from s low same = omega arith
 
-back_ahead : (from to : ℕ) (ended : Bool) (t : ℤ) (ps : List Told) → AllByRecursion IsFirst ps
-    → (o : Option Told) → last_upto t (within from to ps) ≡ o
+back_ahead : (from to : ℕ) (ended : Bool) (t : ℤ) (ps : List Packet) → AllByRecursion IsFirst ps
+    → (o : Option Packet) → last_upto t (within from to ps) ≡ o
     → (if is_some o then any_from t (within from to ps) || ended else from == 0 && (is_some (first (within from to ps)) || ended)) ≡ true
     → from ≤ first_lane (block_of (or_else o (first (within from to ps))))
 back_ahead from to ended t ps firsts (Some s) is h =
@@ -55,15 +55,15 @@ back_ahead from to ended t ps firsts (Some s) is h =
 back_ahead from to ended t ps firsts None is h =
     let begin : from ≡ 0 = (let y = (and_parts _ _ h).0 in eqb-true from 0 y) in omega arith
 
-last_ahead : (from to : ℕ) (ps : List Told) → AllByRecursion IsFirst ps → (o : Option Told) → last (within from to ps) ≡ o → (is_some o || from == 0) ≡ true
+last_ahead : (from to : ℕ) (ps : List Packet) → AllByRecursion IsFirst ps → (o : Option Packet) → last (within from to ps) ≡ o → (is_some o || from == 0) ≡ true
     → from ≤ first_lane (block_of o)
 last_ahead from to ps firsts (Some s) is h =
     low_first from s (last-all (λ p. from ≤ at p) (within from to ps) s (within-low from to ps) is)
     (last-all IsFirst (within from to ps) s (all_kept IsFirst _ ps firsts) is)
 last_ahead from to ps firsts None is h = let begin : from ≡ 0 = eqb-true from 0 h in omega arith
 
-forward_ahead : (from to : ℕ) (ended : Bool) (t : ℤ) (ps : List Told) → AllByRecursion IsFirst ps
-    → (o : Option Told) → first_from t (within from to ps) ≡ o
+forward_ahead : (from to : ℕ) (ended : Bool) (t : ℤ) (ps : List Packet) → AllByRecursion IsFirst ps
+    → (o : Option Packet) → first_from t (within from to ps) ≡ o
     → (if is_some o then is_upto t o || (any_below t (within from to ps) || from == 0) else ended && (is_some (last (within from to ps)) || from == 0)) ≡ true
     → from ≤ first_lane (block_of (or_else o (last (within from to ps))))
 forward_ahead from to ended t ps firsts (Some s) is h =
@@ -71,19 +71,19 @@ forward_ahead from to ended t ps firsts (Some s) is h =
     (first_from-all IsFirst t (within from to ps) s (all_kept IsFirst _ ps firsts) is)
 forward_ahead from to ended t ps firsts None is h = last_ahead from to ps firsts (last (within from to ps)) refl (and_parts ended _ h).1
 
-served_ahead : (dir : Dir) (from to : ℕ) (ended : Bool) (t : ℤ) (ps : List Told) → AllByRecursion IsFirst ps
+served_ahead : (dir : Dir) (from to : ℕ) (ended : Bool) (t : ℤ) (ps : List Packet) → AllByRecursion IsFirst ps
     → served dir from ended t (within from to ps) ≡ true
     → from ≤ first_lane (block_of (sync_for dir t (within from to ps)))
 served_ahead Back from to ended t ps firsts h = back_ahead from to ended t ps firsts (last_upto t (within from to ps)) refl h
 served_ahead Forward from to ended t ps firsts h = forward_ahead from to ended t ps firsts (first_from t (within from to ps)) refl h
 
-span_ahead : (dir : Dir) (o : Option Span) (ended : Bool) (t : ℤ) (ps : List Told) → AllByRecursion IsFirst ps
+span_ahead : (dir : Dir) (o : Option Span) (ended : Bool) (t : ℤ) (ps : List Packet) → AllByRecursion IsFirst ps
     → on_span o (λ s. served dir s.from ended t (in_span o ps)) ≡ true
     → IfSome o (λ s. s.from ≤ first_lane (block_of (sync_for dir t (in_span o ps))))
 span_ahead dir None ended t ps firsts h = tt
 span_ahead dir (Some s) ended t ps firsts h = served_ahead dir s.from s.to ended t ps firsts h
 
-track_ahead : (o : Option ℕ) (k : ℕ) (r : Range) (dir : Dir) (t : ℤ) (ps : List Told) → AllByRecursion HasLanes ps
+track_ahead : (o : Option ℕ) (k : ℕ) (r : Range) (dir : Dir) (t : ℤ) (ps : List Packet) → AllByRecursion HasLanes ps
     → passes o (served_track r ps dir t) ≡ true → is_track o k ≡ true
     → IfSome (r.spans k) (λ s. s.from ≤ first_lane (block_of (track_sync (held_syncs r ps) dir t o)))
 track_ahead None k r dir t ps lanes h is = absurd (cc)
@@ -99,11 +99,11 @@ sub_ahead_by None lead place h = tt
 sub_ahead_by (Some s) true place h = grind (arith, nat_tests)
 sub_ahead_by (Some s) false place h = let e : s.from ≡ 0 = eqb-true s.from 0 h in omega arith
 
-abbrev sub_place : Range → List Told → Choice → Dir → ℤ → ℕ
+abbrev sub_place : Range → List Packet → Choice → Dir → ℤ → ℕ
 sub_place r ps set dir t =
     first_lane (least_of set.video set.audio (block_of (video_sync (held_syncs r ps) set dir t)) (block_of (audio_sync (held_syncs r ps) set dir t)))
 
-sub_ahead : (o : Option ℕ) (k : ℕ) (r : Range) (set : Choice) (dir : Dir) (t : ℤ) (ps : List Told)
+sub_ahead : (o : Option ℕ) (k : ℕ) (r : Range) (set : Choice) (dir : Dir) (t : ℤ) (ps : List Packet)
     → passes o (served_sub r ps set dir t) ≡ true → is_track o k ≡ true
     → IfSome (r.spans k) (λ s. s.from ≤ sub_place r ps set dir t)
 sub_ahead None k r set dir t ps h is = absurd (cc)
@@ -111,7 +111,7 @@ sub_ahead (Some j) k r set dir t ps h is =
     subst (λ i. IfSome (r.spans i) (λ s. s.from ≤ sub_place r ps set dir t))
     (eqb-true j k is) (sub_ahead_by (r.spans j) (is_some (lead_of set)) (sub_place r ps set dir t) h)
 
-pub serves-ahead : (ps : List Told) (r : Range) (set : Choice) (dir : Dir) (t : ℤ) → AllByRecursion HasLanes ps → serves ps set dir t r ≡ true
+pub serves-ahead : (ps : List Packet) (r : Range) (set : Choice) (dir : Dir) (t : ℤ) → AllByRecursion HasLanes ps → serves ps set dir t r ≡ true
     → (k : ℕ) → has set k ≡ true → IfSome (r.spans k) (λ s. s.from ≤ served_head ps set dir t r k)
 serves-ahead ps r set dir t lanes h k has_k =
     let parts = and_parts _ _ h in

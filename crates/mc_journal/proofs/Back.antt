@@ -6,15 +6,15 @@ use Rattle.std.proofs.lemmas.Int.{ints}
 use Rattle.std.proofs.lemmas.Bool.{cases_Bool, cases_lt, or_cases, and_parts}
 use Rattle.std.proofs.lemmas.Bool.Decides.{nat_tests}
 use Rattle.mc_packet.specs.declared.choice.Dir.TheVariants.{Back}
-use Rattle.mc_journal.specs.Told.{Told}
-use Rattle.mc_journal.specs.Choices.{or_else}
+use Rattle.mc_packet.specs.declared.packet.Packet.{Packet}
+use Rattle.mc_packet.specs.Choices.{or_else}
 use Rattle.mc_journal.specs.Films.{at, IsRising, TimesRise, first, last_upto, sync_for}
 use Rattle.mc_journal.specs.Ranges.{within, any_from, served_back}
 use Rattle.mc_journal.proofs.Lists.{or_else-cases, or_else-some}
 use Rattle.mc_journal.proofs.Within.{in_yes, in_below, within-past, past_all, late_all, all_low}
 
 -- all are later than t, so none is at most t
-later : (t : ℤ) (ps : List Told) → AllByRecursion (λ p. t <ℤ p.time) ps → last_upto t ps ≡ None
+later : (t : ℤ) (ps : List Packet) → AllByRecursion (λ p. t <ℤ p.time) ps → last_upto t ps ≡ None
 later t [] h = refl
 later t (p ∷ ps) h =
     let e = later t ps h.1 in
@@ -22,7 +22,7 @@ later t (p ∷ ps) h =
     rw (e, l)
 
 -- nor is one inside
-within-later : (from to : ℕ) (t : ℤ) (ps : List Told) → AllByRecursion (λ p. t <ℤ p.time) ps → last_upto t (within from to ps) ≡ None
+within-later : (from to : ℕ) (t : ℤ) (ps : List Packet) → AllByRecursion (λ p. t <ℤ p.time) ps → last_upto t (within from to ps) ≡ None
 within-later from to t [] h = refl
 within-later from to t (p ∷ ps) h =
     let e = within-later from to t ps h.1 in
@@ -33,7 +33,7 @@ within-later from to t (p ∷ ps) h =
     ]
 
 -- none is at most t, so the first is later
-first-late : (t : ℤ) (p : Told) (ps : List Told) → last_upto t (p ∷ ps) ≡ None → t <ℤ p.time
+first-late : (t : ℤ) (p : Packet) (ps : List Packet) → last_upto t (p ∷ ps) ≡ None → t <ℤ p.time
 first-late t p ps h =
     elim (cases_Bool (int_le p.time t)) [
       | inl y ↦ absurd (or_else-some (last_upto t ps) p (rw y at h))
@@ -41,11 +41,11 @@ first-late t p ps h =
     ]
 
 -- one inside is seen, or there are no more behind it
-abbrev IsSeen : ℕ → Bool → List Told → Type 0
+abbrev IsSeen : ℕ → Bool → List Packet → Type 0
 IsSeen to seen ps = (seen ≡ true) ⊎ AllByRecursion (λ p. at p < to) ps
 
 -- none inside is at most t, and the first inside is seen or there is no more: then none at all is
-none-upto : (from to : ℕ) (t : ℤ) (ps : List Told) → IsRising ps → TimesRise ps
+none-upto : (from to : ℕ) (t : ℤ) (ps : List Packet) → IsRising ps → TimesRise ps
     → AllByRecursion (λ p. from ≤ at p) ps → last_upto t (within from to ps) ≡ None
     → IsSeen to (is_some (first (within from to ps))) ps
     → (last_upto t ps ≡ None) × (first (within from to ps) ≡ first ps)
@@ -62,12 +62,12 @@ none-upto from to t (p ∷ ps) rise times low none seen =
           elim seen [ inl s ↦ absurd (let f : is_some (first []) ≡ true = rw e at s in cc) | inr all ↦ absurd (omega (arith, all.0)) ]
     ]
 
-first-seen : (t : ℤ) (ps : List Told) → any_from t ps ≡ true → is_some (first ps) ≡ true
+first-seen : (t : ℤ) (ps : List Packet) → any_from t ps ≡ true → is_some (first ps) ≡ true
 first-seen t [] h = h
 first-seen t (p ∷ ps) h = refl
 
 -- the last inside that is at most t is the last at all, where one inside is at least t or there is no more
-some-upto : (from to : ℕ) (t : ℤ) (s : Told) (ps : List Told) → IsRising ps → TimesRise ps
+some-upto : (from to : ℕ) (t : ℤ) (s : Packet) (ps : List Packet) → IsRising ps → TimesRise ps
     → last_upto t (within from to ps) ≡ Some s → IsSeen to (any_from t (within from to ps)) ps → last_upto t ps ≡ Some s
 some-upto from to t s [] rise times some seen = some
 some-upto from to t s (p ∷ ps) rise times some seen =
@@ -110,12 +110,12 @@ some-upto from to t s (p ∷ ps) rise times some seen =
       ]
     ]
 
-seen_by : (to : ℕ) (seen ended : Bool) (ps : List Told) → (ended ≡ true → AllByRecursion (λ p. at p < to) ps) → (seen || ended) ≡ true → IsSeen to seen ps
+seen_by : (to : ℕ) (seen ended : Bool) (ps : List Packet) → (ended ≡ true → AllByRecursion (λ p. at p < to) ps) → (seen || ended) ≡ true → IsSeen to seen ps
 seen_by to seen ended ps whole h = elim (or_cases seen ended h) [ inl a ↦ inl a | inr e ↦ inr (whole e) ]
 
-back_by : (from to : ℕ) (ended : Bool) (t : ℤ) (ps : List Told) → IsRising ps → TimesRise ps
+back_by : (from to : ℕ) (ended : Bool) (t : ℤ) (ps : List Packet) → IsRising ps → TimesRise ps
     → (ended ≡ true → AllByRecursion (λ p. at p < to) ps)
-    → (last : Option Told) → last_upto t (within from to ps) ≡ last
+    → (last : Option Packet) → last_upto t (within from to ps) ≡ last
     → (if is_some last then any_from t (within from to ps) || ended else from == 0 && (is_some (first (within from to ps)) || ended)) ≡ true
     → or_else last (first (within from to ps)) ≡ sync_for Back t ps
 back_by from to ended t ps rise times whole (Some s) is h =
@@ -128,7 +128,7 @@ back_by from to ended t ps rise times whole None is h =
     rw (both.0, both.1) refl
 
 -- where a queue shows which sync point a seek back asks for, it is the one of the whole film
-pub back-is-sync : (from to : ℕ) (ended : Bool) (t : ℤ) (ps : List Told) → IsRising ps → TimesRise ps
+pub back-is-sync : (from to : ℕ) (ended : Bool) (t : ℤ) (ps : List Packet) → IsRising ps → TimesRise ps
     → (ended ≡ true → AllByRecursion (λ p. at p < to) ps) → served_back from ended t (within from to ps) ≡ true
     → sync_for Back t (within from to ps) ≡ sync_for Back t ps
 back-is-sync from to ended t ps rise times whole h = back_by from to ended t ps rise times whole (last_upto t (within from to ps)) refl h

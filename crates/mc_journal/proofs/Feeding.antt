@@ -8,8 +8,9 @@ use Rattle.std.proofs.lemmas.Bool.Decides.{nat_tests}
 use Rattle.mc_packet.specs.declared.choice.Choice.{Choice}
 use Rattle.mc_packet.specs.declared.choice.Kind.{Kind}
 use Rattle.mc_packet.specs.declared.walk.Ending.{Ending}
+use Rattle.mc_packet.specs.declared.packet.Packet.{Packet}
+use Rattle.mc_packet.specs.Choices.{or_else, has}
 use Rattle.mc_journal.specs.Told.{Told}
-use Rattle.mc_journal.specs.Choices.{or_else, has}
 use Rattle.mc_journal.specs.Films.{at, rank, first_lane, HasLanes}
 use Rattle.mc_journal.specs.Ranges.{Span, Range, touches}
 use Rattle.mc_journal.specs.Stands.{first_that, without_first, grown, fed_range, union_span, union_range, join_with, join_current, cut_span, cut_range, cut_last, cut_in}
@@ -22,16 +23,16 @@ pub first_lane-mono : (m n : ℕ) → m ≤ n → first_lane m ≤ first_lane n
 unfolding first_lane
 first_lane-mono m n h = omega arith
 
-pub before_block : (b : ℕ) (ps : List Told) → AllByRecursion HasLanes ps → AllByRecursion (λ p. p.pos.block < b) ps → AllByRecursion (λ p. at p < first_lane b) ps
+pub before_block : (b : ℕ) (ps : List Packet) → AllByRecursion HasLanes ps → AllByRecursion (λ p. p.pos.block < b) ps → AllByRecursion (λ p. at p < first_lane b) ps
 unfolding rank first_lane
 before_block b [] lanes h = tt
 before_block b (p ∷ ps) lanes h = (let l = lanes.0.0 in let m = h.0 in omega arith, before_block b ps lanes.1 h.1)
 
 -- what an ending says of a mark
-abbrev pub Closes : List Told → Ending → ℕ → Ending → Type 0
+abbrev pub Closes : List Packet → Ending → ℕ → Ending → Type 0
 Closes ps E m e = (e ≡ E) × AllByRecursion (λ p. at p < first_lane m) ps
 
-pub closes_later : (ps : List Told) (E : Ending) (m n : ℕ) (o : Option Ending) → m ≤ n → IfSome o (Closes ps E m) → IfSome o (Closes ps E n)
+pub closes_later : (ps : List Packet) (E : Ending) (m n : ℕ) (o : Option Ending) → m ≤ n → IfSome o (Closes ps E m) → IfSome o (Closes ps E n)
 closes_later ps E m n None le h = h
 closes_later ps E m n (Some e) le h = (h.0, all_to (λ p. at p < first_lane m) (λ p. at p < first_lane n) (λ p l. let g = first_lane-mono m n le in omega arith) ps h.1)
 
@@ -56,7 +57,7 @@ mapped_if f (Some s) P h = h
 mapped_none : {A B : Type 0} (f : A → B) (o : Option A) → o ≡ None → option_map f o ≡ None
 mapped_none f o h = ap (option_map f) h
 
-pub fed_step : (ps : List Told) (E : Ending) (known : Kind → ℕ → Bool) (set : Choice) (current : Option Range) (others : List Range)
+pub fed_step : (ps : List Packet) (E : Ending) (known : Kind → ℕ → Bool) (set : Choice) (current : Option Range) (others : List Range)
     (pend : Bool) (waiting : ℕ → Bool) (place : ℕ → ℕ) (gave : ℕ → List Told) (from : ℕ → ℕ) (block : ℕ) (ending : Option Ending)
     → Facts ps E known set current others pend waiting place gave from
     → IfSome current (λ r. r.ending ≡ None) → IfSome ending (Closes ps E block)
@@ -102,7 +103,7 @@ union_ahead None b n h = tt
 union_ahead (Some s) None n h = tt
 union_ahead (Some s) (Some q) n h = omega arith
 
-union_sound : (ps : List Told) (E : Ending) (set : Choice) (r q : Range) → IsSound ps E set r → IsSound ps E set q → IsSound ps E set (union_range r q)
+union_sound : (ps : List Packet) (E : Ending) (set : Choice) (r q : Range) → IsSound ps E set r → IsSound ps E set q → IsSound ps E set (union_range r q)
 union_sound ps E set r q hr hq =
     let er = closes_later ps E r.mark (max r.mark q.mark) r.ending (omega arith) hr.ended in
     let eq = closes_later ps E q.mark (max r.mark q.mark) q.ending (omega arith) hq.ended in
@@ -115,7 +116,7 @@ union_sound ps E set r q hr hq =
       owned = λ k. union_owned (r.spans k) (q.spans k) (has set k ≡ true) (hr.owned k);
     }
 
-joined_with : (ps : List Told) (E : Ending) (known : Kind → ℕ → Bool) (set : Choice) (r : Range) (others : List Range) (o : Option Range) (less : List Range)
+joined_with : (ps : List Packet) (E : Ending) (known : Kind → ℕ → Bool) (set : Choice) (r : Range) (others : List Range) (o : Option Range) (less : List Range)
     (pend : Bool) (waiting : ℕ → Bool) (place : ℕ → ℕ) (gave : ℕ → List Told) (from : ℕ → ℕ)
     → Facts ps E known set (Some r) others pend waiting place gave from
     → IfSome o (IsSound ps E set) → AllByRecursion (IsSound ps E set) less
@@ -140,7 +141,7 @@ weaken_if : {A : Type 0} (P Q : A → Type 0) (o : Option A) → IfSome o (λ r.
 weaken_if P Q None h = h
 weaken_if P Q (Some x) h = h.0
 
-pub joined_step : (ps : List Told) (E : Ending) (known : Kind → ℕ → Bool) (set : Choice) (current : Option Range) (others : List Range)
+pub joined_step : (ps : List Packet) (E : Ending) (known : Kind → ℕ → Bool) (set : Choice) (current : Option Range) (others : List Range)
     (pend : Bool) (waiting : ℕ → Bool) (place : ℕ → ℕ) (gave : ℕ → List Told) (from : ℕ → ℕ)
     → Facts ps E known set current others pend waiting place gave from
     → Facts ps E known set (join_current set others current).current (join_current set others current).others pend waiting place gave from
@@ -175,19 +176,19 @@ cut_none None true place h = refl
 cut_none None false place h = refl
 cut_none (Some s) b place h = absurd (cc)
 
-cut_sound : (ps : List Told) (E : Ending) (set : Choice) (k place : ℕ) (r : Range) → IsSound ps E set r → IsSound ps E set (cut_range k place r)
+cut_sound : (ps : List Packet) (E : Ending) (set : Choice) (k place : ℕ) (r : Range) → IsSound ps E set r → IsSound ps E set (cut_range k place r)
 cut_sound ps E set k place r h = record {
   ended = h.ended;
   marked = λ j. cut_marked (r.spans j) (j == k) place (first_lane r.mark) (h.marked j);
   owned = λ j. cut_owned (r.spans j) (j == k) place (has set j ≡ true) (h.owned j);
 }
 
-cut_last_sound : (ps : List Told) (E : Ending) (set : Choice) (k place : ℕ) (r : Range) (rs : List Range) → IsSound ps E set r → AllByRecursion (IsSound ps E set) rs
+cut_last_sound : (ps : List Packet) (E : Ending) (set : Choice) (k place : ℕ) (r : Range) (rs : List Range) → IsSound ps E set r → AllByRecursion (IsSound ps E set) rs
     → AllByRecursion (IsSound ps E set) (cut_last k place r rs)
 cut_last_sound ps E set k place r [] h all = (cut_sound ps E set k place r h, tt)
 cut_last_sound ps E set k place r (q ∷ rs) h all = (h, cut_last_sound ps E set k place q rs all.0 all.1)
 
-pub cut_step : (ps : List Told) (E : Ending) (known : Kind → ℕ → Bool) (set : Choice) (current : Option Range) (others : List Range)
+pub cut_step : (ps : List Packet) (E : Ending) (known : Kind → ℕ → Bool) (set : Choice) (current : Option Range) (others : List Range)
     (pend : Bool) (waiting : ℕ → Bool) (place : ℕ → ℕ) (gave : ℕ → List Told) (from : ℕ → ℕ) (k low high : ℕ)
     → Facts ps E known set current others pend waiting place gave from
     → MayCut k low high (place k) current others

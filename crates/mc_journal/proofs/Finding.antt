@@ -1,6 +1,6 @@
 -- Starts that are found.
 use Rattle.std.proofs.Common.{◌≡◌, ℕ, zero, suc, ◌≤◌, min, Bool, true, false, ◌&&◌, ◌||◌, List, [], ◌∷◌, ◌++◌, Option, Some, None, arith, refl, ap, subst, sym, ◌∙◌, inl, inr, take}
-use Rattle.std.specs.Prelude.{IfSome, is_some, if◌then◌else◌, nat_lt}
+use Rattle.std.specs.Prelude.{map, IfSome, is_some, if◌then◌else◌, nat_lt}
 use Rattle.std.specs.List.{AllByRecursion}
 use Rattle.std.specs.Option.{option_map, option_map_or}
 use Rattle.std.proofs.lemmas.Bool.{cases_Bool, and_parts}
@@ -9,9 +9,10 @@ use Rattle.mc_packet.specs.declared.choice.Starts.{Starts}
 use Rattle.mc_packet.specs.declared.choice.Choice.{Choice}
 use Rattle.mc_packet.specs.declared.choice.Kind.{Kind}
 use Rattle.mc_packet.specs.declared.walk.Ending.{Ending}
-use Rattle.mc_journal.specs.Told.{Told, fresh}
-use Rattle.mc_journal.specs.Choices.{or_else, has}
-use Rattle.mc_journal.specs.Films.{first_lane, HasLanes, IsRegular}
+use Rattle.mc_packet.specs.declared.packet.Packet.{Packet}
+use Rattle.mc_packet.specs.Choices.{or_else, has}
+use Rattle.mc_journal.specs.Told.{Told, told}
+use Rattle.mc_journal.specs.Films.{fresh, first_lane, HasLanes, IsRegular}
 use Rattle.mc_journal.specs.Ranges.{Span, Range}
 use Rattle.mc_journal.specs.Stands.{empty_span, start_given, new_range, add_spans, found_with}
 use Rattle.mc_journal.proofs.Rests.{rest, rest-fresh}
@@ -47,7 +48,7 @@ new_span : (o : Option ℕ) → given_span o ≡ or_else (given_span o) None
 new_span None = refl
 new_span (Some b) = refl
 
-new_sound : (ps : List Told) (E : Ending) (set : Choice) (starts : Starts) (unstarted : ℕ → Bool)
+new_sound : (ps : List Packet) (E : Ending) (set : Choice) (starts : Starts) (unstarted : ℕ → Bool)
     → ((k : ℕ) → is_some (start_given set starts k) ≡ (has set k && unstarted k))
     → ((k : ℕ) → IfSome (start_given set starts k) (λ b. starts.mark.pos ≤ b))
     → IsSound ps E set (new_range set starts)
@@ -62,13 +63,13 @@ new_sound ps E set starts unstarted tracks least = record {
     by_marked None m h = h
     by_marked (Some b) m h = first_lane-mono m b h
 
-added_ended : (ps : List Told) (E : Ending) (m n : ℕ) (o : Option Ending) → IfSome o (Closes ps E n) → IfSome (if nat_lt m n then None else o) (Closes ps E (min m n))
+added_ended : (ps : List Packet) (E : Ending) (m n : ℕ) (o : Option Ending) → IfSome o (Closes ps E n) → IfSome (if nat_lt m n then None else o) (Closes ps E (min m n))
 added_ended ps E m n o h = elim (cases_Bool (nat_lt m n)) [
   | inl y ↦ rw y tt
   | inr off ↦ let e : min m n ≡ n = grind (arith, nat_tests) in rw (off, e) h
 ]
 
-added_sound : (ps : List Told) (E : Ending) (set : Choice) (starts : Starts) (unstarted : ℕ → Bool) (r : Range)
+added_sound : (ps : List Packet) (E : Ending) (set : Choice) (starts : Starts) (unstarted : ℕ → Bool) (r : Range)
     → ((k : ℕ) → is_some (start_given set starts k) ≡ (has set k && unstarted k))
     → ((k : ℕ) → IfSome (start_given set starts k) (λ b. starts.mark.pos ≤ b))
     → IsSound ps E set r
@@ -80,18 +81,18 @@ added_sound ps E set starts unstarted r tracks least h = record {
 }
 
 -- what a start leaves of a track's reading
-going_found : (ps : List Told) (known : Kind → ℕ → Bool) (k : ℕ) (o : Option ℕ) (unstarted : Bool) (gave : List Told) (place from : ℕ) → AllByRecursion HasLanes ps
+going_found : (ps : List Packet) (known : Kind → ℕ → Bool) (k : ℕ) (o : Option ℕ) (unstarted : Bool) (gave : List Told) (place from : ℕ) → AllByRecursion HasLanes ps
     → is_some o ≡ unstarted → (IsRegular ps known → IfSome o (λ b. b ≡ from))
     → (unstarted ≡ true → gave ≡ []) → (unstarted ≡ false → IsGoing ps known k gave place from)
     → IsGoing ps known k gave (option_map_or first_lane o place) from
 going_found ps known k None unstarted gave place from lanes is exact none going = going (sym is)
 going_found ps known k (Some b) unstarted gave place from lanes is exact none going = record {
   start = first_lane b;
-  told = ap (λ xs. xs ++ rest k (first_lane b) ps) (none (sym is));
+  told = ap (λ xs. xs ++ map told (rest k (first_lane b) ps)) (none (sym is));
   exact = λ regular. rest-fresh k b ps lanes ∙ ap (λ c. fresh k c ps) (exact regular);
 }
 
-all_going : (ps : List Told) (known : Kind → ℕ → Bool) (set : Choice) (starts : Starts) (pend : Bool) (waiting : ℕ → Bool) (place : ℕ → ℕ) (gave : ℕ → List Told) (from : ℕ → ℕ) → AllByRecursion HasLanes ps
+all_going : (ps : List Packet) (known : Kind → ℕ → Bool) (set : Choice) (starts : Starts) (pend : Bool) (waiting : ℕ → Bool) (place : ℕ → ℕ) (gave : ℕ → List Told) (from : ℕ → ℕ) → AllByRecursion HasLanes ps
     → ((k : ℕ) → is_some (start_given set starts k) ≡ (has set k && (pend || waiting k)))
     → (IsRegular ps known → (k : ℕ) → IfSome (start_given set starts k) (λ b. b ≡ from k))
     → ((k : ℕ) → has set k ≡ true → (pend || waiting k) ≡ true → gave k ≡ [])
@@ -101,7 +102,7 @@ all_going ps known set starts pend waiting place gave from lanes tracks exact no
     going_found ps known k (start_given set starts k) (pend || waiting k) (gave k) (place k) (from k) lanes
     (tracks k ∙ ap (λ c. c && (pend || waiting k)) has_k) (λ regular. exact regular k) (none k has_k) (going k has_k)
 
-pub found_step : (ps : List Told) (E : Ending) (known : Kind → ℕ → Bool) (set : Choice) (current : Option Range) (others : List Range)
+pub found_step : (ps : List Packet) (E : Ending) (known : Kind → ℕ → Bool) (set : Choice) (current : Option Range) (others : List Range)
     (pend : Bool) (waiting : ℕ → Bool) (place : ℕ → ℕ) (gave : ℕ → List Told) (from : ℕ → ℕ) (starts : Starts)
     → AllByRecursion HasLanes ps
     → Facts ps E known set current others pend waiting place gave from

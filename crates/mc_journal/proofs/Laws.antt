@@ -1,16 +1,17 @@
 -- A journal whose every record is allowed is legal on a regular film, and gapless on any.
 use Rattle.std.proofs.Common.{◌≡◌, ℕ, Bool, true, false, ◌||◌, List, [], ◌∷◌, ◌++◌, Option, Some, None, refl, ap, subst, sym, ◌∙◌, inl, inr}
-use Rattle.std.specs.Prelude.{IfSome, IsSomeAnd, is_some}
+use Rattle.std.specs.Prelude.{IfSome, IsSomeAnd, is_some, map}
 use Rattle.std.proofs.lemmas.Bool.{cases_Bool}
-use Rattle.std.proofs.lemmas.List.{append-nil}
+use Rattle.std.proofs.lemmas.List.{append-nil, map-append}
 use Rattle.mc_packet.specs.declared.choice.Choice.{Choice}
 use Rattle.mc_packet.specs.declared.choice.Kind.{Kind}
 use Rattle.mc_packet.specs.declared.walk.Ending.{Ending}
 use Rattle.mc_packet.specs.declared.cache.Limits.{Limits}
+use Rattle.mc_journal.specs.Told.{Told, told}
 use Rattle.mc_journal.specs.declared.record.DemuxRecord.{DemuxRecord}
 use Rattle.mc_journal.specs.declared.record.DemuxRecord.TheVariants.{Ended}
-use Rattle.mc_journal.specs.Told.{Told}
-use Rattle.mc_journal.specs.Choices.{has}
+use Rattle.mc_packet.specs.declared.packet.Packet.{Packet}
+use Rattle.mc_packet.specs.Choices.{has}
 use Rattle.mc_journal.specs.Films.{Film, first_lane, track_of, IsFilm, IsRising, IsRegular}
 use Rattle.mc_journal.specs.Ranges.{Span, Range}
 use Rattle.mc_journal.specs.Readings.{selected, given, pending, waits}
@@ -36,25 +37,29 @@ none_given xs ys e = ap (λ zs. zs ++ ys) e
 
 gave_fronts : (film : Film) (h : List DemuxRecord) → Holds film h → IsRegular film.packets film.known → GaveFronts film.packets h
 gave_fronts film h f regular k has_k = elim (cases_Bool (pending h || waits k h)) [
-  | inl y ↦ (reading film.packets k h, none_given (given k h) _ (f.blank k has_k y))
-  | inr n ↦ let g = f.going k has_k n in (rest k (head film.packets k h) film.packets, g.told ∙ g.exact regular)
+  | inl y ↦ (map told (reading film.packets k h), none_given (given k h) _ (f.blank k has_k y))
+  | inr n ↦ let g = f.going k has_k n in (map told (rest k (head film.packets k h) film.packets), g.told ∙ ap (λ xs. map told xs) (g.exact regular))
 ]
 
-rest_ends : (k n : ℕ) (ps : List Told) → IsRising ps → IsEnd (rest k n ps) (track_of k ps)
+rest_ends : (k n : ℕ) (ps : List Packet) → IsRising ps → IsEnd (rest k n ps) (track_of k ps)
 rest_ends k n ps rise = let s = from_place-suffix n (track_of k ps) (rising_kept _ ps rise) in (s.0, ap (λ xs. s.0 ++ xs) (rest-track k n ps) ∙ s.1)
+
+-- an end of a list is one of what is told of it
+told_end : (xs ys zs : List Packet) → xs ++ ys ≡ zs → map told xs ++ map told ys ≡ map told zs
+told_end xs ys zs e = sym (map-append told xs ys) ∙ ap (λ us. map told us) e
 
 gave_runs : (film : Film) (h : List DemuxRecord) → IsRising film.packets → Holds film h → GaveRuns film.packets h
 gave_runs film h rise f k has_k = elim (cases_Bool (pending h || waits k h)) [
-  | inl y ↦ ([], track_of k film.packets, none_given (given k h) _ (f.blank k has_k y))
+  | inl y ↦ ([], map told (track_of k film.packets), none_given (given k h) _ (f.blank k has_k y))
   | inr n ↦
       let g = f.going k has_k n in
       let s = rest_ends k g.start film.packets rise in
-      (s.0, rest k (head film.packets k h) film.packets, ap (λ xs. s.0 ++ xs) g.told ∙ s.1)
+      (map told s.0, map told (rest k (head film.packets k h) film.packets), ap (λ xs. map told s.0 ++ xs) g.told ∙ told_end s.0 _ _ s.1)
 ]
 
 -- ---- where an end is told nothing is left
 
-ended_at : (ps : List Told) (E : Ending) (known : Kind → ℕ → Bool) (set : Choice) (current : Option Range) (others : List Range)
+ended_at : (ps : List Packet) (E : Ending) (known : Kind → ℕ → Bool) (set : Choice) (current : Option Range) (others : List Range)
     (pend : Bool) (waiting : ℕ → Bool) (place : ℕ → ℕ) (gave : ℕ → List Told) (from : ℕ → ℕ) (k : ℕ) (e : Ending)
     → Facts ps E known set current others pend waiting place gave from → has set k ≡ true
     → IsSomeAnd current (λ r. (r.ending ≡ Some e) × (is_some (r.spans k) ≡ true)) → next_in ps k (place k) current ≡ None
@@ -70,24 +75,24 @@ ended_at ps E known set (Some r) others pend waiting place gave from k e f has_k
       ],
     )
 
-all_given : (xs ys zs : List Told) → ys ≡ [] → xs ++ ys ≡ zs → xs ≡ zs
-all_given xs ys zs e h = sym (append-nil xs) ∙ ap (λ us. xs ++ us) (sym e) ∙ h
+all_given : (xs zs : List Told) (ys : List Packet) → ys ≡ [] → xs ++ map told ys ≡ zs → xs ≡ zs
+all_given xs zs ys e h = sym (append-nil xs) ∙ ap (λ us. xs ++ map told us) (sym e) ∙ h
 
 end_well : (film : Film) (h : List DemuxRecord) (by k : ℕ) (e : Ending) → Holds film h → IsRegular film.packets film.known
     → May film h (Ended by k e) → EndsWell film.packets film.ending (Ended by k e ∷ h)
 end_well film h by k e f regular may =
     let a = ended_at film.packets film.ending film.known (selected h) _ _ _ _ _ _ _ k e f may.0 may.1 may.2 in
     let g = f.going k may.0 a.2 in
-    (may.0, all_given (given k h) _ _ a.1 g.told ∙ g.exact regular, a.0)
+    (may.0, all_given (given k h) _ _ a.1 g.told ∙ ap (λ xs. map told xs) (g.exact regular), a.0)
 
 end_last : (film : Film) (h : List DemuxRecord) (by k : ℕ) (e : Ending) → IsRising film.packets → Holds film h
     → May film h (Ended by k e) → EndsLast film.packets film.ending (Ended by k e ∷ h)
 end_last film h by k e rise f may =
     let a = ended_at film.packets film.ending film.known (selected h) _ _ _ _ _ _ _ k e f may.0 may.1 may.2 in
     let g = f.going k may.0 a.2 in
-    let same : given k h ≡ rest k g.start film.packets = all_given (given k h) _ _ a.1 g.told in
+    let same : given k h ≡ map told (rest k g.start film.packets) = all_given (given k h) _ _ a.1 g.told in
     let s = rest_ends k g.start film.packets rise in
-    (may.0, λ some. (s.0, ap (λ xs. s.0 ++ xs) same ∙ s.1), a.0)
+    (may.0, λ some. (map told s.0, ap (λ xs. map told s.0 ++ xs) same ∙ told_end s.0 _ _ s.1), a.0)
 
 ends_well : (film : Film) (h : List DemuxRecord) (r : DemuxRecord) → Holds film h → IsRegular film.packets film.known → May film h r → EndsWell film.packets film.ending (r ∷ h)
 ends_well film h (Ended by k e) f regular may = end_well film h by k e f regular may

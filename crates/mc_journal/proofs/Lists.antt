@@ -2,8 +2,8 @@
 use Rattle.std.proofs.Common.{◌≡◌, ◌<◌, Bool, List, [], ◌∷◌, Option, Some, None, inl, inr, ◌⊎◌, refl}
 use Rattle.std.specs.List.{filter, AllByRecursion}
 use Rattle.std.proofs.lemmas.Bool.{cases_Bool}
-use Rattle.mc_journal.specs.Told.{Told}
-use Rattle.mc_journal.specs.Choices.{or_else}
+use Rattle.mc_packet.specs.declared.packet.Packet.{Packet}
+use Rattle.mc_packet.specs.Choices.{or_else}
 use Rattle.mc_journal.specs.Films.{at, IsRising}
 
 pub all_to : {X : Type 0} (P Q : X → Type 0) → ((x : X) → P x → Q x) → (xs : List X) → AllByRecursion P xs → AllByRecursion Q xs
@@ -17,7 +17,7 @@ all_kept P test (x ∷ xs) h =
     elim (cases_Bool (test x)) [ inl y ↦ rw y (h.0, e) | inr n ↦ rw n e ]
 
 -- places go on rising in what a test keeps
-pub rising_kept : (test : Told → Bool) (ps : List Told) → IsRising ps → IsRising (filter test ps)
+pub rising_kept : (test : Packet → Bool) (ps : List Packet) → IsRising ps → IsRising (filter test ps)
 rising_kept test [] h = h
 rising_kept test (p ∷ ps) h =
     let e = rising_kept test ps h.1 in

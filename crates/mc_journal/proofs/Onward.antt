@@ -6,15 +6,15 @@ use Rattle.std.proofs.lemmas.Int.{ints}
 use Rattle.std.proofs.lemmas.Bool.{cases_Bool, cases_lt, or_cases, and_parts}
 use Rattle.std.proofs.lemmas.Bool.Decides.{nat_tests}
 use Rattle.mc_packet.specs.declared.choice.Dir.TheVariants.{Forward}
-use Rattle.mc_journal.specs.Told.{Told}
-use Rattle.mc_journal.specs.Choices.{or_else}
+use Rattle.mc_packet.specs.declared.packet.Packet.{Packet}
+use Rattle.mc_packet.specs.Choices.{or_else}
 use Rattle.mc_journal.specs.Films.{at, IsRising, TimesRise, last, first_from, sync_for}
 use Rattle.mc_journal.specs.Ranges.{within, any_below, is_upto, served_forward}
 use Rattle.mc_journal.proofs.Lists.{all_kept, or_else-cases}
 use Rattle.mc_journal.proofs.Within.{in_yes, in_below, within-past, within-whole, past_all, all_low}
 
 -- what holds of each packet holds of the first one at or after t
-pub first_from-all : (Q : Told → Type 0) (t : ℤ) (ps : List Told) (s : Told) → AllByRecursion Q ps → first_from t ps ≡ Some s → Q s
+pub first_from-all : (Q : Packet → Type 0) (t : ℤ) (ps : List Packet) (s : Packet) → AllByRecursion Q ps → first_from t ps ≡ Some s → Q s
 first_from-all Q t [] s all h = absurd (cc)
 first_from-all Q t (p ∷ ps) s all h = elim (cases_Bool (int_le t p.time)) [
   | inl y ↦ let e : Some p ≡ Some s = rw y at h in let same : p ≡ s = cc in subst Q same all.0
@@ -22,7 +22,7 @@ first_from-all Q t (p ∷ ps) s all h = elim (cases_Bool (int_le t p.time)) [
 ]
 
 -- and of the last one
-pub last-all : (Q : Told → Type 0) (ps : List Told) (s : Told) → AllByRecursion Q ps → last ps ≡ Some s → Q s
+pub last-all : (Q : Packet → Type 0) (ps : List Packet) (s : Packet) → AllByRecursion Q ps → last ps ≡ Some s → Q s
 last-all Q [] s all h = absurd (cc)
 last-all Q (p ∷ ps) s all h = elim (or_else-cases (last ps) (Some p) s h) [
   | inl there ↦ last-all Q ps s all.1 there
@@ -30,7 +30,7 @@ last-all Q (p ∷ ps) s all h = elim (or_else-cases (last ps) (Some p) s h) [
 ]
 
 -- one is below t, and all are later than u
-below-late : (t u : ℤ) (ps : List Told) → AllByRecursion (λ q. u <ℤ q.time) ps → any_below t ps ≡ true → u <ℤ t
+below-late : (t u : ℤ) (ps : List Packet) → AllByRecursion (λ q. u <ℤ q.time) ps → any_below t ps ≡ true → u <ℤ t
 below-late t u [] all h = absurd (cc)
 below-late t u (p ∷ ps) all h = elim (or_cases (int_lt p.time t) (any_below t ps) h) [
   | inl y ↦ let l = all.0 in grind (arith, ints)
@@ -38,11 +38,11 @@ below-late t u (p ∷ ps) all h = elim (or_cases (int_lt p.time t) (any_below t 
 ]
 
 -- the one inside shows that none before it is at least t: it is at t, or one below t lies inside, or nothing lies before
-abbrev Shows : ℕ → ℤ → Told → List Told → List Told → Type 0
+abbrev Shows : ℕ → ℤ → Packet → List Packet → List Packet → Type 0
 Shows from t s inside ps = (s.time ≤ℤ t) ⊎ ((any_below t inside ≡ true) ⊎ AllByRecursion (λ p. from ≤ at p) ps)
 
 -- the first inside at or after t is the first at all
-some-from : (from to : ℕ) (t : ℤ) (s : Told) (ps : List Told) → IsRising ps → TimesRise ps
+some-from : (from to : ℕ) (t : ℤ) (s : Packet) (ps : List Packet) → IsRising ps → TimesRise ps
     → first_from t (within from to ps) ≡ Some s → Shows from t s (within from to ps) ps → first_from t ps ≡ Some s
 some-from from to t s [] rise times some shows = some
 some-from from to t s (p ∷ ps) rise times some shows =
@@ -79,7 +79,7 @@ some-from from to t s (p ∷ ps) rise times some shows =
     ]
 
 -- none is at or after t, so all are before
-all-early : (t : ℤ) (ps : List Told) → first_from t ps ≡ None → AllByRecursion (λ p. p.time <ℤ t) ps
+all-early : (t : ℤ) (ps : List Packet) → first_from t ps ≡ None → AllByRecursion (λ p. p.time <ℤ t) ps
 all-early t [] h = tt
 all-early t (p ∷ ps) h = elim (cases_Bool (int_le t p.time)) [
   | inl y ↦ absurd (let e : Some p ≡ None = rw y at h in cc)
@@ -87,7 +87,7 @@ all-early t (p ∷ ps) h = elim (cases_Bool (int_le t p.time)) [
 ]
 
 -- none inside is at or after t, and nothing lies past: then none at all is, and the last inside is the last
-none-from : (from to : ℕ) (t : ℤ) (s : Told) (ps : List Told) → IsRising ps → TimesRise ps → AllByRecursion (λ p. at p < to) ps
+none-from : (from to : ℕ) (t : ℤ) (s : Packet) (ps : List Packet) → IsRising ps → TimesRise ps → AllByRecursion (λ p. at p < to) ps
     → first_from t (within from to ps) ≡ None → last (within from to ps) ≡ Some s → (first_from t ps ≡ None) × (last ps ≡ Some s)
 none-from from to t s [] rise times high none is = absurd (cc)
 none-from from to t s (p ∷ ps) rise times high none is =
@@ -104,7 +104,7 @@ none-from from to t s (p ∷ ps) rise times high none is =
           (ap (first_from t) (sym whole) ∙ none, ap last (sym whole) ∙ is)
     ]
 
-shown_by : (from : ℕ) (t : ℤ) (s : Told) (inside ps : List Told) → (is_upto t (Some s) || (any_below t inside || from == 0)) ≡ true → Shows from t s inside ps
+shown_by : (from : ℕ) (t : ℤ) (s : Packet) (inside ps : List Packet) → (is_upto t (Some s) || (any_below t inside || from == 0)) ≡ true → Shows from t s inside ps
 shown_by from t s inside ps h = elim (or_cases (int_le s.time t) (any_below t inside || from == 0) h) [
   | inl upto ↦ inl (grind (arith, ints))
   | inr more ↦ elim (or_cases (any_below t inside) (from == 0) more) [
@@ -113,8 +113,8 @@ shown_by from t s inside ps h = elim (or_cases (int_le s.time t) (any_below t in
   ]
 ]
 
-last_by : (from to : ℕ) (t : ℤ) (ps : List Told) → IsRising ps → TimesRise ps → AllByRecursion (λ p. at p < to) ps → first_from t (within from to ps) ≡ None
-    → (o : Option Told) → last (within from to ps) ≡ o → (is_some o || from == 0) ≡ true → last (within from to ps) ≡ sync_for Forward t ps
+last_by : (from to : ℕ) (t : ℤ) (ps : List Packet) → IsRising ps → TimesRise ps → AllByRecursion (λ p. at p < to) ps → first_from t (within from to ps) ≡ None
+    → (o : Option Packet) → last (within from to ps) ≡ o → (is_some o || from == 0) ≡ true → last (within from to ps) ≡ sync_for Forward t ps
 last_by from to t ps rise times high none (Some s) is h =
     let both = none-from from to t s ps rise times high none is in
     rw both.0 (is ∙ sym both.1)
@@ -125,9 +125,9 @@ last_by from to t ps rise times high none None is h =
     let off : first_from t ps ≡ None = ap (first_from t) (sym whole) ∙ none in
     rw off (ap last whole)
 
-forward_by : (from to : ℕ) (ended : Bool) (t : ℤ) (ps : List Told) → IsRising ps → TimesRise ps
+forward_by : (from to : ℕ) (ended : Bool) (t : ℤ) (ps : List Packet) → IsRising ps → TimesRise ps
     → (ended ≡ true → AllByRecursion (λ p. at p < to) ps)
-    → (o : Option Told) → first_from t (within from to ps) ≡ o
+    → (o : Option Packet) → first_from t (within from to ps) ≡ o
     → (if is_some o then is_upto t o || (any_below t (within from to ps) || from == 0) else ended && (is_some (last (within from to ps)) || from == 0)) ≡ true
     → or_else o (last (within from to ps)) ≡ sync_for Forward t ps
 forward_by from to ended t ps rise times whole (Some s) is h =
@@ -137,7 +137,7 @@ forward_by from to ended t ps rise times whole None is h =
     last_by from to t ps rise times (whole parts.0) is (last (within from to ps)) refl parts.1
 
 -- where a queue shows which sync point a seek forward asks for, it is the one of the whole film
-pub forward-is-sync : (from to : ℕ) (ended : Bool) (t : ℤ) (ps : List Told) → IsRising ps → TimesRise ps
+pub forward-is-sync : (from to : ℕ) (ended : Bool) (t : ℤ) (ps : List Packet) → IsRising ps → TimesRise ps
     → (ended ≡ true → AllByRecursion (λ p. at p < to) ps) → served_forward from ended t (within from to ps) ≡ true
     → sync_for Forward t (within from to ps) ≡ sync_for Forward t ps
 forward-is-sync from to ended t ps rise times whole h = forward_by from to ended t ps rise times whole (first_from t (within from to ps)) refl h

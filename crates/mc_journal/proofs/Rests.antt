@@ -4,8 +4,8 @@ use Rattle.std.specs.Prelude.{nat_le, nat_lt}
 use Rattle.std.specs.List.{filter, AllByRecursion}
 use Rattle.std.proofs.lemmas.Bool.{cases_Bool, cases_lt}
 use Rattle.std.proofs.lemmas.Bool.Decides.{nat_tests}
-use Rattle.mc_journal.specs.Told.{Told, fresh}
-use Rattle.mc_journal.specs.Films.{at, rank, first_lane, first, track_of, IsRising, HasLanes}
+use Rattle.mc_packet.specs.declared.packet.Packet.{Packet}
+use Rattle.mc_journal.specs.Films.{fresh, at, rank, first_lane, first, track_of, IsRising, HasLanes}
 use Rattle.mc_journal.specs.Ranges.{within}
 use Rattle.mc_journal.specs.Views.{from_place}
 use Rattle.mc_journal.specs.Legal.{IsEnd}
@@ -13,10 +13,10 @@ use Rattle.mc_journal.proofs.Lists.{all_to}
 use Rattle.mc_journal.proofs.Within.{past_all, within-past, in_yes}
 
 -- the packets of a track from a place on
-abbrev pub rest : ℕ → ℕ → List Told → List Told
+abbrev pub rest : ℕ → ℕ → List Packet → List Packet
 rest k place ps = filter (λ p. p.track == k && nat_le place (at p)) ps
 
-pub rest-track : (k n : ℕ) (ps : List Told) → rest k n ps ≡ from_place n (track_of k ps)
+pub rest-track : (k n : ℕ) (ps : List Packet) → rest k n ps ≡ from_place n (track_of k ps)
 rest-track k n [] = refl
 rest-track k n (p ∷ ps) =
     let e = rest-track k n ps in
@@ -29,7 +29,7 @@ in_block : (block lane b : ℕ) → lane < 65536 → nat_le (b * 65536) (block *
 in_block block lane b h = grind (arith, nat_tests)
 
 -- from lane 0 of a block on is from the block on
-pub rest-fresh : (k b : ℕ) (ps : List Told) → AllByRecursion HasLanes ps → rest k (first_lane b) ps ≡ fresh k b ps
+pub rest-fresh : (k b : ℕ) (ps : List Packet) → AllByRecursion HasLanes ps → rest k (first_lane b) ps ≡ fresh k b ps
 unfolding rank first_lane
 rest-fresh k b [] h = refl
 rest-fresh k b (p ∷ ps) h =
@@ -37,7 +37,7 @@ rest-fresh k b (p ∷ ps) h =
     let same = in_block p.pos.block p.pos.lane b h.0.0 in
     rw (same, e)
 
-pub from_place-all : (n : ℕ) (ps : List Told) → AllByRecursion (λ p. n ≤ at p) ps → from_place n ps ≡ ps
+pub from_place-all : (n : ℕ) (ps : List Packet) → AllByRecursion (λ p. n ≤ at p) ps → from_place n ps ≡ ps
 from_place-all n [] h = refl
 from_place-all n (p ∷ ps) h =
     let e = from_place-all n ps h.1 in
@@ -50,7 +50,7 @@ le_yes n m h = grind (arith, nat_tests)
 pub le_no : (n m : ℕ) → m < n → nat_le n m ≡ false
 le_no n m h = grind (arith, nat_tests)
 
-pub first_kept : (n : ℕ) (p : Told) (ps : List Told) → first (from_place n ps) ≡ Some p → n ≤ at p
+pub first_kept : (n : ℕ) (p : Packet) (ps : List Packet) → first (from_place n ps) ≡ Some p → n ≤ at p
 first_kept n p [] h = absurd (cc)
 first_kept n p (q ∷ ps) h =
     elim (cases_Bool (nat_le n (at q))) [
@@ -59,7 +59,7 @@ first_kept n p (q ∷ ps) h =
     ]
 
 -- the packet at the place, by a span that holds what is there
-pub from_place-next : (from to n : ℕ) (p : Told) (ps : List Told) → IsRising ps → from ≤ n
+pub from_place-next : (from to n : ℕ) (p : Packet) (ps : List Packet) → IsRising ps → from ≤ n
     → first (from_place n (within from to ps)) ≡ Some p
     → from_place n ps ≡ p ∷ from_place (at p + 1) ps
 from_place-next from to n p [] rise ahead h = absurd (cc)
@@ -90,7 +90,7 @@ from_place-next from to n p (q ∷ ps) rise ahead h =
                 let all : from_place n ps ≡ ps = from_place-all n ps (all_to (λ r. at q < at r) (λ r. n ≤ at r) (λ r l. omega arith) ps rise.0) in
                 let all' : from_place (at q + 1) ps ≡ ps = from_place-all (at q + 1) ps (all_to (λ r. at q < at r) (λ r. at q + 1 ≤ at r) (λ r l. omega arith) ps rise.0) in
                 let here' : from_place n (q ∷ ps) ≡ q ∷ from_place (at q + 1) (q ∷ ps) = rw (yes, off', all, all') refl in
-                subst (λ (x : Told). from_place n (q ∷ ps) ≡ x ∷ from_place (at x + 1) (q ∷ ps)) e here'
+                subst (λ (x : Packet). from_place n (q ∷ ps) ≡ x ∷ from_place (at x + 1) (q ∷ ps)) e here'
             | inr past ↦
                 let none : within from to (q ∷ ps) ≡ [] = within-past from to (q ∷ ps) (past, past_all to q ps past rise.0) in
                 absurd (let f : first (from_place n []) ≡ Some p = rw none at h in cc)
@@ -98,7 +98,7 @@ from_place-next from to n p (q ∷ ps) rise ahead h =
     ]
 
 -- nothing is left, where the span holds nothing from there on and reaches past all
-pub from_place-end : (from to n : ℕ) (ps : List Told) → from ≤ n → AllByRecursion (λ p. at p < to) ps
+pub from_place-end : (from to n : ℕ) (ps : List Packet) → from ≤ n → AllByRecursion (λ p. at p < to) ps
     → first (from_place n (within from to ps)) ≡ None
     → from_place n ps ≡ []
 from_place-end from to n [] ahead all h = refl
@@ -117,7 +117,7 @@ from_place-end from to n (q ∷ ps) ahead all h =
     ]
 
 -- it is an end of the track
-pub from_place-suffix : (n : ℕ) (ps : List Told) → IsRising ps → IsEnd (from_place n ps) ps
+pub from_place-suffix : (n : ℕ) (ps : List Packet) → IsRising ps → IsEnd (from_place n ps) ps
 from_place-suffix n [] rise = ([], refl)
 from_place-suffix n (q ∷ ps) rise =
     elim (cases_lt (at q) n) [

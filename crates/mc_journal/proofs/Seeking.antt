@@ -1,15 +1,16 @@
 -- A seek, sent or answered from the cache.
 use Rattle.std.proofs.Common.{◌≡◌, ℕ, ◌<◌, Bool, true, false, List, [], ◌∷◌, ◌++◌, Option, Some, None, ℤ, refl, ap, sym, ◌∙◌, inl, inr}
-use Rattle.std.specs.Prelude.{IfSome, is_some}
+use Rattle.std.specs.Prelude.{map, IfSome, is_some}
 use Rattle.std.specs.List.{AllByRecursion}
 use Rattle.std.proofs.lemmas.Bool.{cases_Bool}
 use Rattle.mc_packet.specs.declared.choice.Dir.{Dir}
 use Rattle.mc_packet.specs.declared.choice.Choice.{Choice}
 use Rattle.mc_packet.specs.declared.choice.Kind.{Kind}
 use Rattle.mc_packet.specs.declared.walk.Ending.{Ending}
-use Rattle.mc_journal.specs.Told.{Told, fresh}
-use Rattle.mc_journal.specs.Choices.{has, is_known}
-use Rattle.mc_journal.specs.Films.{at, first_lane, IsFilm, start_with, start_of}
+use Rattle.mc_packet.specs.declared.packet.Packet.{Packet}
+use Rattle.mc_packet.specs.Choices.{has, is_known}
+use Rattle.mc_journal.specs.Told.{Told, told}
+use Rattle.mc_journal.specs.Films.{fresh, at, first_lane, IsFilm, start_with, start_of}
 use Rattle.mc_journal.specs.Ranges.{Range, held_syncs, serves, served_head, IsWhole}
 use Rattle.mc_journal.specs.Stands.{ranges_of, first_that, without_first}
 use Rattle.mc_journal.specs.Views.{chosen_head}
@@ -26,22 +27,22 @@ pub all_without : (P : Range → Type 0) (test : Range → Bool) (rs : List Rang
 all_without P test [] h = h
 all_without P test (r ∷ rs) h = elim (cases_Bool (test r)) [ inl y ↦ rw y h.1 | inr n ↦ rw n (h.0, all_without P test rs h.1) ]
 
-pub sound_all : (ps : List Told) (E : Ending) (set : Choice) (current : Option Range) (others : List Range) (Q : Range → Type 0)
+pub sound_all : (ps : List Packet) (E : Ending) (set : Choice) (current : Option Range) (others : List Range) (Q : Range → Type 0)
     → IfSome current (λ r. IsSound ps E set r × Q r) → AllByRecursion (IsSound ps E set) others
     → AllByRecursion (IsSound ps E set) (ranges_of (record { current = current; others = others }))
 sound_all ps E set None others Q here there = there
 sound_all ps E set (Some r) others Q here there = (here.0, there)
 
-whole_by : (ps : List Told) (E : Ending) (m : ℕ) (o : Option Ending) → IfSome o (λ e. (e ≡ E) × AllByRecursion (λ p. at p < m) ps)
+whole_by : (ps : List Packet) (E : Ending) (m : ℕ) (o : Option Ending) → IfSome o (λ e. (e ≡ E) × AllByRecursion (λ p. at p < m) ps)
     → is_some o ≡ true → AllByRecursion (λ p. at p < m) ps
 whole_by ps E m None h is = absurd (cc)
 whole_by ps E m (Some e) h is = h.1
 
-pub sound-whole : (ps : List Told) (E : Ending) (set : Choice) (r : Range) → IsSound ps E set r → IsWhole ps r
+pub sound-whole : (ps : List Packet) (E : Ending) (set : Choice) (r : Range) → IsSound ps E set r → IsWhole ps r
 sound-whole ps E set r s = record { ended = whole_by ps E (first_lane r.mark) r.ending s.ended; marked = s.marked }
 
 -- a seek that is sent: nothing is current, nothing is given
-pub sent_step : (ps : List Told) (E : Ending) (known : Kind → ℕ → Bool) (set : Choice) (current : Option Range) (others : List Range)
+pub sent_step : (ps : List Packet) (E : Ending) (known : Kind → ℕ → Bool) (set : Choice) (current : Option Range) (others : List Range)
     (pend : Bool) (waiting : ℕ → Bool) (place : ℕ → ℕ) (gave : ℕ → List Told) (from : ℕ → ℕ)
     (waiting' : ℕ → Bool) (place' : ℕ → ℕ) (gave' : ℕ → List Told) (from' : ℕ → ℕ)
     → Facts ps E known set current others pend waiting place gave from
@@ -60,7 +61,7 @@ sent_step ps E known set current others pend waiting place gave from waiting' pl
     parted (Some r) h = (h.0, (h.1, h.2))
 
 -- a seek that a range serves: it is read on from the served heads, which on a regular film are the fresh reading's
-cached_by : (ps : List Told) (E : Ending) (known : Kind → ℕ → Bool) (set : Choice) (dir : Dir) (t : ℤ) (o : Option Range) (others : List Range)
+cached_by : (ps : List Packet) (E : Ending) (known : Kind → ℕ → Bool) (set : Choice) (dir : Dir) (t : ℤ) (o : Option Range) (others : List Range)
     (waiting' : ℕ → Bool) (gave' : ℕ → List Told) (from' : ℕ → ℕ)
     → IsFilm ps → is_known known set ≡ true → is_some o ≡ true → IfSome o (λ r. IsSound ps E set r × (serves ps set dir t r ≡ true))
     → AllByRecursion (IsSound ps E set) others
@@ -81,7 +82,7 @@ cached_by ps E known set dir t (Some r) others waiting' gave' from' film fits is
   blank = λ k has_k w. none k has_k;
   going = λ k has_k w. record {
     start = served_head ps set dir t r k;
-    told = ap (λ xs. xs ++ rest k (served_head ps set dir t r k) ps) (none k has_k);
+    told = ap (λ xs. xs ++ map told (rest k (served_head ps set dir t r k) ps)) (none k has_k);
     exact = λ regular.
         let at_start : start_with (held_syncs r ps) set dir t k ≡ from' k =
         serves-is-start ps r set dir t known film.rising regular (sound-whole ps E set r chosen.0) fits chosen.1 k ∙ sym (starts k has_k) in
@@ -89,7 +90,7 @@ cached_by ps E known set dir t (Some r) others waiting' gave' from' film fits is
   };
 }
 
-pub cached_step : (ps : List Told) (E : Ending) (known : Kind → ℕ → Bool) (set : Choice) (dir : Dir) (t : ℤ) (current : Option Range) (others : List Range)
+pub cached_step : (ps : List Packet) (E : Ending) (known : Kind → ℕ → Bool) (set : Choice) (dir : Dir) (t : ℤ) (current : Option Range) (others : List Range)
     (pend : Bool) (waiting : ℕ → Bool) (place : ℕ → ℕ) (gave : ℕ → List Told) (from : ℕ → ℕ)
     (waiting' : ℕ → Bool) (gave' : ℕ → List Told) (from' : ℕ → ℕ)
     → IsFilm ps → Facts ps E known set current others pend waiting place gave from

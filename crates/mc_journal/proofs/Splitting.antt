@@ -3,7 +3,7 @@ use Rattle.std.proofs.Common.{◌≡◌, ℕ, ◌≤◌, ◌&&◌, List, [], ◌
 use Rattle.std.specs.Prelude.{nat_le, nat_lt}
 use Rattle.std.specs.List.{AllByRecursion}
 use Rattle.std.proofs.lemmas.Bool.{cases_Bool, cases_lt}
-use Rattle.mc_journal.specs.Told.{Told}
+use Rattle.mc_packet.specs.declared.packet.Packet.{Packet}
 use Rattle.mc_journal.specs.Films.{at, IsRising}
 use Rattle.mc_journal.specs.Ranges.{within}
 use Rattle.mc_journal.specs.Views.{from_place}
@@ -11,7 +11,7 @@ use Rattle.mc_journal.proofs.Within.{in_yes, in_below, in_past, within-past, pas
 use Rattle.mc_journal.proofs.Rests.{le_yes, le_no}
 
 -- past the middle it makes no difference where it begins
-within-behind : (from mid to : ℕ) (ps : List Told) → from ≤ mid → AllByRecursion (λ q. mid ≤ at q) ps → within from to ps ≡ within mid to ps
+within-behind : (from mid to : ℕ) (ps : List Packet) → from ≤ mid → AllByRecursion (λ q. mid ≤ at q) ps → within from to ps ≡ within mid to ps
 within-behind from mid to [] f all = refl
 within-behind from mid to (q ∷ qs) f all =
     let e = within-behind from mid to qs f all.1 in
@@ -21,7 +21,7 @@ within-behind from mid to (q ∷ qs) f all =
     ]
 
 -- up to the middle, and from there on
-pub within-split : (from mid to : ℕ) (ps : List Told) → IsRising ps → from ≤ mid → mid ≤ to → within from to ps ≡ within from mid ps ++ within mid to ps
+pub within-split : (from mid to : ℕ) (ps : List Packet) → IsRising ps → from ≤ mid → mid ≤ to → within from to ps ≡ within from mid ps ++ within mid to ps
 within-split from mid to [] rise f g = refl
 within-split from mid to (p ∷ ps) rise f g =
     let e = within-split from mid to ps rise.1 f g in
@@ -36,7 +36,7 @@ within-split from mid to (p ∷ ps) rise f g =
     ]
 
 -- what is left behind a cut
-pub within-cut : (from cut to : ℕ) (ps : List Told) → from ≤ cut → from_place cut (within from to ps) ≡ within cut to ps
+pub within-cut : (from cut to : ℕ) (ps : List Packet) → from ≤ cut → from_place cut (within from to ps) ≡ within cut to ps
 within-cut from cut to [] h = refl
 within-cut from cut to (p ∷ ps) h =
     let e = within-cut from cut to ps h in

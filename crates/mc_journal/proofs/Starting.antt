@@ -8,8 +8,8 @@ use Rattle.mc_packet.specs.declared.choice.Kind.{Kind}
 use Rattle.mc_packet.specs.declared.choice.Kind.TheVariants.{Video, Audio}
 use Rattle.mc_packet.specs.declared.choice.Dir.{Dir}
 use Rattle.mc_packet.specs.declared.choice.Dir.TheVariants.{Back, Forward}
-use Rattle.mc_journal.specs.Told.{Told}
-use Rattle.mc_journal.specs.Choices.{passes, is_known}
+use Rattle.mc_packet.specs.declared.packet.Packet.{Packet}
+use Rattle.mc_packet.specs.Choices.{passes, is_known}
 use Rattle.mc_journal.specs.Films.{at, first_lane, IsRising, TimesRise, syncs, sync_for, track_sync, video_sync, audio_sync, audio_dir, time_or, start_by, start_with, film_syncs, start_of, is_listed, IsRegular}
 use Rattle.mc_journal.specs.Ranges.{Span, Range, in_span, held_syncs, served, on_span, served_track, serves, IsWhole}
 use Rattle.mc_journal.proofs.Lists.{all_to, all_kept, rising_kept}
@@ -37,14 +37,14 @@ audio_listed known set h =
 
 -- ---- one track
 
-served-is-sync : (dir : Dir) (from to : ℕ) (ended : Bool) (t : ℤ) (ps : List Told) → IsRising ps → TimesRise ps
+served-is-sync : (dir : Dir) (from to : ℕ) (ended : Bool) (t : ℤ) (ps : List Packet) → IsRising ps → TimesRise ps
     → (ended ≡ true → AllByRecursion (λ p. at p < to) ps)
     → served dir from ended t (in_span (Some (record { from = from; to = to })) ps) ≡ true
     → sync_for dir t (in_span (Some (record { from = from; to = to })) ps) ≡ sync_for dir t ps
 served-is-sync Back from to ended t ps rise times whole h = back-is-sync from to ended t ps rise times whole h
 served-is-sync Forward from to ended t ps rise times whole h = forward-is-sync from to ended t ps rise times whole h
 
-served_span : (dir : Dir) (o : Option Span) (ended : Bool) (m : ℕ) (t : ℤ) (ps : List Told) → IsRising ps → TimesRise ps
+served_span : (dir : Dir) (o : Option Span) (ended : Bool) (m : ℕ) (t : ℤ) (ps : List Packet) → IsRising ps → TimesRise ps
     → (ended ≡ true → AllByRecursion (λ p. at p < m) ps) → IfSome o (λ s. m ≤ s.to)
     → on_span o (λ s. served dir s.from ended t (in_span o ps)) ≡ true
     → sync_for dir t (in_span o ps) ≡ sync_for dir t ps
@@ -52,7 +52,7 @@ served_span dir None ended m t ps rise times whole mark h = absurd (cc)
 served_span dir (Some s) ended m t ps rise times whole mark h =
     served-is-sync dir s.from s.to ended t ps rise times (λ e. all_to (λ p. at p < m) (λ p. at p < s.to) (λ p l. omega arith) ps (whole e)) h
 
-served_one : (ps : List Told) (r : Range) (dir : Dir) (t : ℤ) (o : Option ℕ) (known : Kind → ℕ → Bool) → IsRising ps → IsRegular ps known → IsWhole ps r
+served_one : (ps : List Packet) (r : Range) (dir : Dir) (t : ℤ) (o : Option ℕ) (known : Kind → ℕ → Bool) → IsRising ps → IsRegular ps known → IsWhole ps r
     → passes o (is_listed known) ≡ true → passes o (served_track r ps dir t) ≡ true
     → track_sync (held_syncs r ps) dir t o ≡ track_sync (film_syncs ps) dir t o
 served_one ps r dir t None known rise regular whole fits h = refl
@@ -62,7 +62,7 @@ served_one ps r dir t (Some k) known rise regular whole fits h =
 
 -- ---- all tracks
 
-pub serves-is-start : (ps : List Told) (r : Range) (set : Choice) (dir : Dir) (t : ℤ) (known : Kind → ℕ → Bool) → IsRising ps → IsRegular ps known → IsWhole ps r
+pub serves-is-start : (ps : List Packet) (r : Range) (set : Choice) (dir : Dir) (t : ℤ) (known : Kind → ℕ → Bool) → IsRising ps → IsRegular ps known → IsWhole ps r
     → is_known known set ≡ true → serves ps set dir t r ≡ true
     → (track : ℕ) → start_with (held_syncs r ps) set dir t track ≡ start_of ps set dir t track
 serves-is-start ps r set dir t known rise regular whole fits h track =

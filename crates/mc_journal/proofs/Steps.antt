@@ -1,5 +1,5 @@
 -- Each record that may come keeps the facts.
-use Rattle.std.proofs.Common.{◌≡◌, ℕ, ◌<◌, ◌≤◌, ◌==◌, Bool, true, false, not, ◌&&◌, ◌||◌, List, [], ◌∷◌, Option, Some, None, ℤ, arith, refl, subst, sym, ap, ◌∙◌, inl, inr}
+use Rattle.std.proofs.Common.{◌≡◌, ℕ, ◌+◌, ◌<◌, ◌≤◌, ◌==◌, Bool, true, false, not, ◌&&◌, ◌||◌, List, [], ◌∷◌, ◌++◌, Option, Some, None, ℤ, arith, refl, subst, sym, ap, ◌∙◌, inl, inr}
 use Rattle.std.specs.Prelude.{IfSome, IsSomeAnd, is_some, if◌then◌else◌}
 use Rattle.std.specs.Bool.{MatchBool}
 use Rattle.std.specs.List.{AllByRecursion}
@@ -15,13 +15,15 @@ use Rattle.mc_journal.specs.declared.record.Sought.{Sought as How}
 use Rattle.mc_journal.specs.declared.record.Sought.TheVariants.{Cached, Sent}
 use Rattle.mc_journal.specs.declared.record.DemuxRecord.{DemuxRecord}
 use Rattle.mc_journal.specs.declared.record.DemuxRecord.TheVariants.{Opened, Sought, Switched, Found, Fed, Failed, Starved, Dropped, Joined, Gave, Ended, Overfull, Faulted, Wanting, Shown, Refused}
-use Rattle.mc_journal.specs.Told.{Told, fresh}
-use Rattle.mc_journal.specs.Choices.{is_track, has, lead_of, is_empty, is_known, meets, kept_track, kept_of, OnTrack}
-use Rattle.mc_journal.specs.Films.{Film, rank, first_lane, IsFilm, HasLanes, switch_start}
+use Rattle.mc_packet.specs.declared.packet.Packet.{Packet}
+use Rattle.mc_packet.specs.Choices.{is_track, has, lead_of, is_empty, is_known}
+use Rattle.mc_journal.specs.Choices.{meets, kept_track, kept_of, OnTrack}
+use Rattle.mc_journal.specs.Told.{Told, told}
+use Rattle.mc_journal.specs.Films.{fresh, Film, rank, first_lane, IsFilm, HasLanes, switch_start}
 use Rattle.mc_journal.specs.Ranges.{Span, Range}
 use Rattle.mc_journal.specs.Readings.{selected, read_from, given, pending, waits, follows, target, direction, switcher}
-use Rattle.mc_journal.specs.Stands.{stand, holds_any, opened, empty_span, start_given, dropped}
-use Rattle.mc_journal.specs.Views.{head}
+use Rattle.mc_journal.specs.Stands.{stand, tidied, holds_any, opened, empty_span, start_given, dropped}
+use Rattle.mc_journal.specs.Views.{head, next}
 use Rattle.mc_journal.specs.Allowed.{how_by, is_served, is_added, added_by, EachStart, StartsOf, is_sought, May, MaySeek, MayDrop}
 use Rattle.mc_journal.proofs.Rests.{rest, rest-fresh}
 use Rattle.mc_journal.proofs.Facts.{Facts, Holds, facts_kept}
@@ -41,7 +43,7 @@ open_span : (b : Bool) (Q : Span → Type 0) → (b ≡ true → Q (empty_span 0
 open_span true Q h = h refl
 open_span false Q h = tt
 
-opened_step : (ps : List Told) (E : Ending) (known : Kind → ℕ → Bool) (set : Choice) → IsFilm ps → is_known known set ≡ true
+opened_step : (ps : List Packet) (E : Ending) (known : Kind → ℕ → Bool) (set : Choice) → IsFilm ps → is_known known set ≡ true
     → Facts ps E known set (opened set).current [] false (λ k. false) (λ k. 0) (λ k. []) (λ k. 0)
 opened_step ps E known set film fits = record {
   fits = fits;
@@ -100,7 +102,7 @@ unended : (o : Option Range) (block : ℕ) → IsSomeAnd o (λ r. (r.ending ≡ 
 unended None block h = tt
 unended (Some r) block h = h.0
 
-closes_by : (ps : List Told) (E : Ending) (block : ℕ) (o : Option Ending) → AllByRecursion HasLanes ps
+closes_by : (ps : List Packet) (E : Ending) (block : ℕ) (o : Option Ending) → AllByRecursion HasLanes ps
     → IfSome o (λ e. (e ≡ E) × AllByRecursion (λ p. p.pos.block < block) ps) → IfSome o (Closes ps E block)
 closes_by ps E block None lanes h = tt
 closes_by ps E block (Some e) lanes h = (h.0, before_block block ps lanes h.1)
@@ -183,6 +185,28 @@ tracks_of set test starts e k = elim (cases_Bool (is_track set.video k)) [
   ]
 ]
 
+-- ---- a packet that is given
+
+some_is : {P : Packet → Type 0} (o : Option Packet) → IsSomeAnd o P → (p : Packet) × (o ≡ Some p) × P p
+some_is None h = absurd h
+some_is (Some p) h = (p, refl, h)
+
+-- what a journal holds once a packet was given that is told so
+abbrev HoldsGiven : Film → List DemuxRecord → Told → Type 0
+HoldsGiven film h t = Facts film.packets film.ending film.known (selected h)
+    (tidied film.packets (selected h) (stand film.packets h)).current (tidied film.packets (selected h) (stand film.packets h)).others
+    (pending h) (λ k. waits k h) (λ k. if t.track == k then rank t.pos + 1 else head film.packets k h)
+    (λ k. if t.track == k then given k h ++ t ∷ [] else given k h) (λ k. read_from film.packets k h)
+
+given_step : (film : Film) (h : List DemuxRecord) (t : Told) → IsFilm film.packets → Holds film h → has (selected h) t.track ≡ true
+    → (p : Packet) × (next film.packets h t.track ≡ Some p) × (told p ≡ t) → HoldsGiven film h t
+given_step film h t is f sel at_head =
+    let p = at_head.0 in
+    let sel_p : has (selected h) p.track ≡ true = subst (λ (x : Told). has (selected h) x.track ≡ true) (sym at_head.2) sel in
+    let head_p : next film.packets h p.track ≡ Some p = subst (λ (x : Told). next film.packets h x.track ≡ Some p) (sym at_head.2) at_head.1 in
+    subst (λ (x : Told). HoldsGiven film h x) at_head.2
+    (facts_kept (holds_any film.packets (selected h)) (gave_step film.packets film.ending film.known (selected h) _ _ _ _ _ _ _ p is.rising f sel_p head_p))
+
 -- ---- any record
 
 pub step : (film : Film) (h : List DemuxRecord) (r : DemuxRecord) → IsFilm film.packets → Holds film h → May film h r → Holds film (r ∷ h)
@@ -205,8 +229,8 @@ step film h (Dropped by removal) is f may =
     facts_kept (holds_any film.packets (selected h)) (dropped_step film h removal.track (rank removal.from) (rank removal.to) removal.cause f may)
 step film h (Joined by) is f may = facts_kept (holds_any film.packets (selected h)) (joined_step film.packets film.ending film.known (selected h) _ _ _ _ _ _ _ f)
 step film h (Gave by track pos time len sum sync key) is f may =
-    facts_kept (holds_any film.packets (selected h)) (gave_step film.packets film.ending film.known (selected h) _ _ _ _ _ _ _
-    (record { track = track; pos = pos; time = time; len = len; sum = sum; sync = sync; key = key }) is.rising f may.0 may.1)
+    given_step film h (record { track = track; pos = pos; time = time; len = len; sum = sum; sync = sync; key = key }) is f may.0
+    (some_is (next film.packets h track) may.1)
 step film h (Ended by track e) is f may = facts_kept (holds_any film.packets (selected h)) f
 step film h (Overfull by track bytes max) is f may = facts_kept (holds_any film.packets (selected h)) f
 step film h (Faulted by track before later) is f may = facts_kept (holds_any film.packets (selected h)) f

@@ -6,8 +6,9 @@ use Rattle.std.proofs.lemmas.Bool.{cases_Bool, or_parts}
 use Rattle.mc_packet.specs.declared.choice.Choice.{Choice}
 use Rattle.mc_packet.specs.declared.choice.Kind.{Kind}
 use Rattle.mc_packet.specs.declared.walk.Ending.{Ending}
+use Rattle.mc_packet.specs.declared.packet.Packet.{Packet}
+use Rattle.mc_packet.specs.Choices.{has, is_known}
 use Rattle.mc_journal.specs.Told.{Told}
-use Rattle.mc_journal.specs.Choices.{has, is_known}
 use Rattle.mc_journal.specs.Ranges.{Span, Range}
 use Rattle.mc_journal.specs.Stands.{keep_tracks}
 use Rattle.mc_journal.proofs.Facts.{IsSound, IsRead, Facts}
@@ -42,7 +43,7 @@ one_kept : (a b w : Bool) → a ≡ (true && (not b || w)) → a ≡ false → (
 one_kept a true w e h = (refl, sym e ∙ h)
 one_kept a false w e h = absurd (cc)
 
-pub switch_step : (ps : List Told) (E : Ending) (known : Kind → ℕ → Bool) (set : Choice) (current : Option Range) (others : List Range)
+pub switch_step : (ps : List Packet) (E : Ending) (known : Kind → ℕ → Bool) (set : Choice) (current : Option Range) (others : List Range)
     (pend : Bool) (waiting : ℕ → Bool) (place : ℕ → ℕ) (gave : ℕ → List Told) (from : ℕ → ℕ) (set' added : Choice) (from' : ℕ → ℕ) (none : Bool)
     → Facts ps E known set current others pend waiting place gave from
     → is_known known set' ≡ true

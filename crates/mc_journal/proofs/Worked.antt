@@ -1,19 +1,39 @@
 -- The worked journals are used: each record's conditions are computed.
-use Rattle.std.proofs.Common.{◌≡◌, ap, ℕ, true, false, ◌<◌, ◌∷◌, Some, None, arith, refl, lit≤, lit<}
+use Rattle.std.proofs.Common.{◌≡◌, ap, sym, ◌∙◌, Option, ℕ, true, false, ◌<◌, ◌∷◌, Some, None, arith, refl, lit≤, lit<}
 use Rattle.std.specs.List.{AllByRecursion}
+use Rattle.std.specs.Option.{option_map_or}
+use Rattle.mc_packet.specs.declared.choice.Choice.{Choice}
+use Rattle.mc_journal.specs.Told.{Told, told}
 use Rattle.mc_journal.specs.declared.record.Sought.TheVariants.{Cached, Sent}
-use Rattle.mc_journal.specs.Films.{rank, first_lane, block_of}
+use Rattle.mc_journal.specs.Films.{rank, first_lane}
 use Rattle.mc_journal.specs.Views.{is_idle}
 use Rattle.mc_journal.specs.Used.{IsUsed, AreNext, onto}
 use Rattle.mc_journal.proofs.Appending.{used-onto}
 use Rattle.mc_journal.specs.WorkedFilms.{one, two, one_packets, two_packets, opening, c0, a93, a100, v200}
-use Rattle.mc_journal.specs.Worked.{added_twice, before_the_start, begins_again, drain_0, drain_1, drain_2, drain_end, drained, drained_forward, drained_twice, dropped, dropping, ends_early, failed_read, fails, filling, first_seven, forward_at, forward_exact, forward_past, forward_sent, forward_to_last, from_keyframe, joined, joins, meets_second, none_behind, one_ahead, other_audio, overfull, past_the_end, read, reads_0, reads_1, refusals, refused, repeated, second_range, sent, sent_again, sent_seek, skips, start, switched, switches, third_track, too_early, too_late, two_ranges, unjoined, usual, waited}
+use Rattle.mc_journal.specs.Worked.{added_twice, before_the_start, begins_again, drain_0, drain_1, drain_2, drain_end, drained, drained_forward, drained_twice, dropped, dropping, ends_early, failed_read, fails, filling, first_seven, forward_at, forward_exact, forward_past, forward_sent, forward_to_last, from_keyframe, joined, joins, meets_second, none_behind, one_ahead, other_audio, overfull, past_the_end, read, reads_0, reads_1, refusals, refused, repeated, second_range, sent, sent_again, sent_seek, skips, start, switched, switches, third_track, too_early, too_late, two_ranges, switched_to_same, unjoined, usual, waited}
 
 one_before : AllByRecursion (λ p. p.pos.block < 228) one_packets
 one_before = (lit< tt, (lit< tt, (lit< tt, (lit< tt, (lit< tt, (lit< tt, (lit< tt, (lit< tt, (lit< tt, (lit< tt, (lit< tt, (lit< tt, (lit< tt, (lit< tt, (lit< tt, (lit< tt, (lit< tt, (lit< tt, tt))))))))))))))))))
 
 two_before : AllByRecursion (λ p. p.pos.block < 176) two_packets
 two_before = (lit< tt, (lit< tt, (lit< tt, (lit< tt, (lit< tt, (lit< tt, (lit< tt, (lit< tt, (lit< tt, (lit< tt, tt))))))))))
+
+-- ---- selections that differ
+
+abbrev number_or : Option ℕ → ℕ
+number_or o = option_map_or (λ n. n) o 0
+
+three_is_not_two : ◌≡◌ {A = ℕ} 3 2 → ⊥
+three_is_not_two e = omega arith
+
+none_is_not_one : ◌≡◌ {A = ℕ} 0 1 → ⊥
+none_is_not_one e = omega arith
+
+audio_differs : (a b : Choice) → number_or a.audio ≡ 3 → number_or b.audio ≡ 2 → a ≡ b → ⊥
+audio_differs a b x y e = three_is_not_two (sym x ∙ (ap (λ (s : Choice). number_or s.audio) e ∙ y))
+
+video_differs : (a b : Choice) → number_or a.video ≡ 0 → number_or b.video ≡ 1 → a ≡ b → ⊥
+video_differs a b x y e = none_is_not_one (sym x ∙ (ap (λ (s : Choice). number_or s.video) e ∙ y))
 
 -- ---- drain
 
@@ -159,7 +179,7 @@ switched-first_seven = ((record { sound = refl; here = (refl, refl); onward = li
 
 switched-switches : AreNext two usual (onto first_seven start) switches
 unfolding rank first_lane
-switched-switches = (((refl, refl), refl, tt), (((refl, refl), refl, tt), (((refl, refl), refl, tt), (((refl, refl), refl, tt), (((refl, refl), refl, tt), ((tt, refl, (refl, refl, refl, refl)), ((record { sound = refl; some = refl; tracks = (refl, refl, refl); exact = λ regular. (tt, refl, tt); least = (tt, lit≤ tt, tt) }, refl, λ regular. refl), tt)))))))
+switched-switches = (((refl, refl), refl, tt), (((refl, refl), refl, tt), (((refl, refl), refl, tt), (((refl, refl), refl, tt), (((refl, refl, λ e. audio_differs _ _ refl refl e), refl, tt), ((tt, refl, (refl, refl, refl, refl)), ((record { sound = refl; some = refl; tracks = (refl, refl, refl); exact = λ regular. (tt, refl, tt); least = (tt, lit≤ tt, tt) }, refl, λ regular. refl), tt)))))))
 
 switched-other_audio : AreNext two usual (onto switches (onto first_seven start)) other_audio
 unfolding rank first_lane
@@ -203,7 +223,7 @@ started_refused = (((refl, refl), refl, tt), tt)
 
 refused-refusals : AreNext one usual (start) refusals
 unfolding rank first_lane
-refused-refusals = ((tt, refl, tt), (((refl, refl), refl, tt), ((tt, refl, refl), tt)))
+refused-refusals = ((tt, refl, tt), (((refl, refl, λ e. video_differs _ _ refl refl e), refl, tt), ((tt, refl, refl), tt)))
 
 pub refused-used : IsUsed one usual refused
 refused-used = used-onto one usual refusals start started_refused refused-refusals
@@ -215,7 +235,7 @@ started_waited = (((refl, refl), refl, tt), tt)
 
 waited-added_twice : AreNext two usual (start) added_twice
 unfolding rank first_lane
-waited-added_twice = (((refl, refl), refl, tt), (((refl, refl), refl, tt), ((record { sound = refl; some = refl; tracks = (refl, refl, refl); exact = λ regular. (tt, refl, tt); least = (tt, lit≤ tt, tt) }, refl, λ regular. refl), tt)))
+waited-added_twice = (((refl, refl, λ e. audio_differs _ _ refl refl e), refl, tt), (((refl, refl, λ e. video_differs _ _ refl refl e), refl, tt), ((record { sound = refl; some = refl; tracks = (refl, refl, refl); exact = λ regular. (tt, refl, tt); least = (tt, lit≤ tt, tt) }, refl, λ regular. refl), tt)))
 
 waited-third_track : AreNext two usual (onto added_twice start) third_track
 unfolding rank first_lane
@@ -231,7 +251,7 @@ started_repeated = (((refl, refl), refl, tt), tt)
 
 repeated-sent_again : AreNext one usual (start) sent_again
 unfolding rank first_lane
-repeated-sent_again = (((refl, (refl, refl)), refl, tt), (((refl, refl), refl, tt), (((refl, (refl, refl, refl, refl)), refl, tt), ((record { sound = refl; some = refl; tracks = (refl, refl, refl); exact = λ regular. (tt, refl, tt); least = (tt, lit≤ tt, tt) }, refl, λ regular. refl), ((record { sound = refl; here = (refl, refl); onward = lit≤ tt; ends = tt }, refl, (refl, refl)), (((refl, refl), refl, tt), tt))))))
+repeated-sent_again = (((refl, (refl, refl)), refl, tt), (((refl, refl, λ e. video_differs _ _ refl refl e), refl, tt), (((refl, (refl, refl, refl, refl)), refl, tt), ((record { sound = refl; some = refl; tracks = (refl, refl, refl); exact = λ regular. (tt, refl, tt); least = (tt, lit≤ tt, tt) }, refl, λ regular. refl), ((record { sound = refl; here = (refl, refl); onward = lit≤ tt; ends = tt }, refl, (refl, refl)), (((refl, refl), refl, tt), tt))))))
 
 pub repeated-used : IsUsed one usual repeated
 repeated-used = used-onto one usual sent_again start started_repeated repeated-sent_again
@@ -277,8 +297,8 @@ other_answer e = cc
 apart : ◌≡◌ {A = ℕ} 93 100 → ⊥
 apart e = omega arith
 
-other_packet : Some a93 ≡ Some a100 → ⊥
-other_packet e = apart (ap block_of e)
+other_packet : told a93 ≡ told a100 → ⊥
+other_packet e = apart (ap (λ (t : Told). t.pos.block) e)
 
 no_packet : Some v200 ≡ None → ⊥
 no_packet e = cc
@@ -301,6 +321,10 @@ skips-unused used = other_packet used.0.0.1
 pub ends_early-unused : IsUsed one usual ends_early → ⊥
 unfolding rank first_lane
 ends_early-unused used = no_packet used.0.0.2
+
+pub switched_to_same-unused : IsUsed one usual switched_to_same → ⊥
+unfolding rank first_lane
+switched_to_same-unused used = used.0.0.2 refl
 
 pub unjoined-unused : IsUsed one usual unjoined → ⊥
 unfolding rank first_lane

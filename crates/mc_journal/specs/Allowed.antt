@@ -13,8 +13,10 @@ use Rattle.mc_journal.specs.declared.record.Sought.{Sought as How}
 use Rattle.mc_journal.specs.declared.record.Sought.TheVariants.{Cached, Sent}
 use Rattle.mc_journal.specs.declared.record.DemuxRecord.{DemuxRecord}
 use Rattle.mc_journal.specs.declared.record.DemuxRecord.TheVariants.{Opened, Sought, Switched, Found, Fed, Failed, Starved, Dropped, Joined, Gave, Ended, Overfull, Faulted, Wanting, Shown, Refused}
-use Rattle.mc_journal.specs.Told.{Told}
-use Rattle.mc_journal.specs.Choices.{has, is_empty, is_known, meets, some_of, kept_of, OnTrack}
+use Rattle.mc_packet.specs.declared.packet.Packet.{Packet}
+use Rattle.mc_packet.specs.Choices.{has, is_empty, is_known}
+use Rattle.mc_journal.specs.Choices.{meets, some_of, kept_of, OnTrack}
+use Rattle.mc_journal.specs.Told.{Told, told}
 use Rattle.mc_journal.specs.Films.{Film, rank, IsRegular}
 use Rattle.mc_journal.specs.Ranges.{Range, serves, touches}
 use Rattle.mc_journal.specs.Readings.{selected, read_from, pending, waits, follows, target, direction, switcher, failed}
@@ -28,12 +30,12 @@ how_by true = Cached
 how_by false = Sent
 
 -- a range that the journal leaves serves a seek of the set
-abbrev pub is_served : List Told → List DemuxRecord → Choice → Dir → ℤ → Bool
+abbrev pub is_served : List Packet → List DemuxRecord → Choice → Dir → ℤ → Bool
 is_served ps h set dir t = is_some (first_that (serves ps set dir t) (ranges_of (stand ps h)))
 
 -- it is of the selected tracks. Behind a switch that came while one was pending it is that one, sent again by the same
 -- caller; else something is selected, and it is answered from the cache exactly where a range serves it
-abbrev pub MaySeek : List Told → List DemuxRecord → ℕ → Choice → ℤ → Dir → How → Type 0
+abbrev pub MaySeek : List Packet → List DemuxRecord → ℕ → Choice → ℤ → Dir → How → Type 0
 MaySeek ps h by set t dir how = (set ≡ selected h) × MatchBool (follows h)
     ((how ≡ Sent) × (target h ≡ Some t) × (dir ≡ direction h) × (switcher h ≡ Some by))
     ((is_empty set ≡ false) × (how ≡ how_by (is_served ps h set dir t)))
@@ -47,9 +49,9 @@ is_added h track = not (has (selected h) track) || waits track h
 abbrev pub added_by : List DemuxRecord → Choice → Choice
 added_by h set = kept_of set (is_added h)
 
--- it names tracks of the film, each under its kind
+-- it names tracks of the film, each under its kind, and is not the selection that stands
 abbrev pub MaySwitch : Film → List DemuxRecord → Choice → Choice → Type 0
-MaySwitch film h set added = (is_known film.known set ≡ true) × (added ≡ added_by h set)
+MaySwitch film h set added = (is_known film.known set ≡ true) × (added ≡ added_by h set) × (set ≡ selected h → ⊥)
 
 -- ---- starts
 
@@ -98,7 +100,7 @@ MayCut track from to place current (r ∷ q ∷ rs) = MayCut track from to place
 
 -- the limit cuts the last range that isn't current, else the current one, there at most up to the head. Ranges of one film
 -- never differ
-abbrev pub MayDrop : List Told → List DemuxRecord → ℕ → ℕ → ℕ → Cause → Type 0
+abbrev pub MayDrop : List Packet → List DemuxRecord → ℕ → ℕ → ℕ → Cause → Type 0
 MayDrop ps h track from to (Limit back max) = MayCut track from to (head ps track h) (stand ps h).current (stand ps h).others
 MayDrop ps h track from to (TooMany count) = ⊤
 MayDrop ps h track from to TrackChanged = ⊤
@@ -111,23 +113,23 @@ touched set others None = false
 touched set others (Some r) = is_some (first_that (touches set r) others)
 
 -- another range touches the current one
-abbrev pub joinable : List Told → List DemuxRecord → Bool
+abbrev pub joinable : List Packet → List DemuxRecord → Bool
 joinable ps h = touched (selected h) (stand ps h).others (stand ps h).current
 
 -- ---- a reader's answers
 
--- the packet at the head is given
-abbrev pub MayGive : List Told → List DemuxRecord → Told → Type 0
-MayGive ps h p = (has (selected h) p.track ≡ true) × (next ps h p.track ≡ Some p)
+-- the packet at the head is given, and told as it is
+abbrev pub MayGive : List Packet → List DemuxRecord → Told → Type 0
+MayGive ps h t = (has (selected h) t.track ≡ true) × IsSomeAnd (next ps h t.track) (λ p. told p ≡ t)
 
 -- an end is told where nothing is at the head, and the current range has its ending and a span of the track
-abbrev pub MayEnd : List Told → List DemuxRecord → ℕ → Ending → Type 0
+abbrev pub MayEnd : List Packet → List DemuxRecord → ℕ → Ending → Type 0
 MayEnd ps h track ending = (has (selected h) track ≡ true)
     × IsSomeAnd (stand ps h).current (λ r. (r.ending ≡ Some ending) × (is_some (r.spans track) ≡ true))
     × (next ps h track ≡ None)
 
 -- another answer comes where nothing is at the head
-abbrev pub MayWait : List Told → List DemuxRecord → ℕ → Bool → Type 0
+abbrev pub MayWait : List Packet → List DemuxRecord → ℕ → Bool → Type 0
 MayWait ps h track fault = (has (selected h) track ≡ true) × (next ps h track ≡ None) × (failed h ≡ fault)
 
 -- ---- each record

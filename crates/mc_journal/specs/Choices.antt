@@ -1,37 +1,9 @@
--- The selected tracks, at most one of a kind, and what is asked of each of them.
-use Rattle.std.specs.Prelude.{ℕ, ◌+◌, ◌==◌, Bool, true, false, ◌&&◌, ◌||◌, not, if◌then◌else◌, Option, Some, None, is_some, ⊤}
+-- What is asked of each selected track, and what is counted of them all.
+use Rattle.std.specs.Prelude.{ℕ, ◌+◌, Bool, false, ◌&&◌, ◌||◌, if◌then◌else◌, Option, Some, None, ⊤}
 use Rattle.mc_packet.specs.declared.choice.Choice.{Choice}
-use Rattle.mc_packet.specs.declared.choice.Kind.{Kind}
-use Rattle.mc_packet.specs.declared.choice.Kind.TheVariants.{Video, Audio, Sub}
-
-abbrev pub or_else : {A : Type 0} → Option A → Option A → Option A
-or_else (Some x) other = Some x
-or_else None other = other
-
-abbrev pub is_track : Option ℕ → ℕ → Bool
-is_track None track = false
-is_track (Some n) track = n == track
-
--- a choice has the track
-abbrev pub has : Choice → ℕ → Bool
-has set track = is_track set.video track || (is_track set.audio track || is_track set.sub track)
-
-abbrev pub nothing : Choice
-nothing = record { video = None; audio = None; sub = None }
-
--- the lead: the selected video track, else the selected audio track
-abbrev pub lead_of : Choice → Option ℕ
-lead_of set = or_else set.video set.audio
-
-abbrev pub is_empty : Choice → Bool
-is_empty set = not (is_some (or_else set.sub (lead_of set)))
+use Rattle.mc_packet.specs.Choices.{passes}
 
 -- ---- a test of each track
-
--- no track, or one that passes
-abbrev pub passes : Option ℕ → (ℕ → Bool) → Bool
-passes None test = true
-passes (Some track) test = test track
 
 -- a track that passes
 abbrev pub meets : Option ℕ → (ℕ → Bool) → Bool
@@ -67,18 +39,3 @@ of_track (Some track) f = f track
 -- the sum over the selected tracks
 abbrev pub total_of : Choice → (ℕ → ℕ) → ℕ
 total_of set f = of_track set.video f + (of_track set.audio f + of_track set.sub f)
-
--- ---- which choices can be
-
-abbrev pub is_other : Option ℕ → Option ℕ → Bool
-is_other (Some a) (Some b) = not (a == b)
-is_other a b = true
-
--- no track stands under two kinds
-abbrev pub is_distinct : Choice → Bool
-is_distinct set = is_other set.video set.audio && (is_other set.video set.sub && is_other set.audio set.sub)
-
--- a choice of tracks that the film lists, each under its own kind and none under two
-abbrev pub is_known : (Kind → ℕ → Bool) → Choice → Bool
-is_known known set =
-    passes set.video (known Video) && (passes set.audio (known Audio) && (passes set.sub (known Sub) && is_distinct set))

@@ -10,7 +10,7 @@ use Rattle.mc_journal.specs.declared.record.Cause.TheVariants.{TooMany}
 use Rattle.mc_journal.specs.declared.record.Sought.TheVariants.{Sent}
 use Rattle.mc_journal.specs.declared.record.DemuxRecord.{DemuxRecord}
 use Rattle.mc_journal.specs.declared.record.DemuxRecord.TheVariants.{Opened, Sought, Dropped}
-use Rattle.mc_journal.specs.Told.{Told}
+use Rattle.mc_packet.specs.declared.packet.Packet.{Packet}
 use Rattle.mc_journal.specs.Films.{Film}
 use Rattle.mc_journal.specs.WorkedFilms.{Block, block, in_cluster, opening, packet, part_by}
 use Rattle.mc_journal.specs.Worked.{found, place, read, tracks}
@@ -21,7 +21,7 @@ use Rattle.mc_journal.specs.Used.{onto}
 abbrev pub m : ℕ → Mark
 m n = in_cluster 0 254 n
 
-abbrev pub many_packets : List Told
+abbrev pub many_packets : List Packet
 many_packets =
     packet 1 100 0 16 true ∷ packet 1 107 10000000 17 true ∷ packet 1 114 20000000 18 true ∷ packet 1 121 30000000 19 true
     ∷ packet 1 128 40000000 20 true ∷ packet 1 135 50000000 21 true ∷ packet 1 142 60000000 22 true ∷ packet 1 149 70000000 23 true

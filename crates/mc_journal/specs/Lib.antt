@@ -9,6 +9,7 @@ pub mod Views
 pub mod Legal
 pub mod Allowed
 pub mod Used
+pub mod Drives
 pub mod WorkedFilms
 pub mod Worked
 pub mod Crowded

@@ -6,10 +6,10 @@ use Rattle.mc_packet.specs.declared.choice.Dir.TheVariants.{Back}
 use Rattle.mc_journal.specs.declared.record.Sought.TheVariants.{Cached, Sent}
 use Rattle.mc_journal.specs.declared.record.DemuxRecord.{DemuxRecord}
 use Rattle.mc_journal.specs.declared.record.DemuxRecord.TheVariants.{Opened, Sought, Switched, Found, Failed, Starved, Gave, Refused}
+use Rattle.mc_packet.specs.declared.packet.Packet.{Packet}
+use Rattle.mc_packet.specs.Choices.{has, lead_of, nothing}
 use Rattle.mc_journal.specs.Told.{Told}
-use Rattle.mc_journal.specs.Choices.{lead_of}
 use Rattle.mc_journal.specs.Films.{start_of, switch_start}
-pub use Rattle.mc_journal.specs.Choices.{is_track, has, nothing}
 
 -- the selected tracks
 abbrev pub selected : List DemuxRecord → Choice
@@ -19,16 +19,16 @@ selected (Sought by set t dir how ∷ h) = set
 selected (Switched by set added t ∷ h) = set
 selected (_ ∷ h) = selected h
 
--- the offset of the block from which a track is read: 0 after the opening, the start of the last seek over the whole film,
+-- the offset of the block from which a selected track is read: 0 after the opening, the start of the last seek over the whole film,
 -- or that of the switch that added the track
-abbrev pub read_from : List Told → ℕ → List DemuxRecord → ℕ
+abbrev pub read_from : List Packet → ℕ → List DemuxRecord → ℕ
 read_from ps track [] = 0
 read_from ps track (Opened by set ∷ h) = 0
 read_from ps track (Sought by set t dir how ∷ h) = if has set track then start_of ps set dir t track else read_from ps track h
 read_from ps track (Switched by set added t ∷ h) = if has added track then switch_start ps (lead_of set) added t track else read_from ps track h
 read_from ps track (_ ∷ h) = read_from ps track h
 
--- what a track's reader was given since then, in order
+-- what a selected track's reader was given since then, in order, as it is told
 abbrev pub given : ℕ → List DemuxRecord → List Told
 given track [] = []
 given track (Opened by set ∷ h) = []
@@ -79,7 +79,7 @@ abbrev pub switcher : List DemuxRecord → Option ℕ
 switcher (Switched by set added t ∷ h) = Some by
 switcher _ = None
 
--- the last failed read or want of memory since the last opening, seek or switch
+-- the last failed read, or want of memory, since the last opening, seek or switch
 abbrev pub last_fault : List DemuxRecord → Option DemuxRecord
 last_fault [] = None
 last_fault (Opened by set ∷ h) = None

@@ -10,8 +10,9 @@ use Rattle.mc_journal.specs.declared.record.Cause.TheVariants.{Limit}
 use Rattle.mc_journal.specs.declared.record.Sought.TheVariants.{Cached, Sent}
 use Rattle.mc_journal.specs.declared.record.DemuxRecord.{DemuxRecord}
 use Rattle.mc_journal.specs.declared.record.DemuxRecord.TheVariants.{Opened, Sought, Switched, Found, Fed, Dropped, Joined}
-use Rattle.mc_journal.specs.Told.{Told}
-use Rattle.mc_journal.specs.Choices.{or_else, is_track, has, is_empty, each_of}
+use Rattle.mc_packet.specs.declared.packet.Packet.{Packet}
+use Rattle.mc_packet.specs.Choices.{or_else, is_track, has, is_empty}
+use Rattle.mc_journal.specs.Choices.{each_of}
 use Rattle.mc_journal.specs.Films.{rank, first_lane, first}
 use Rattle.mc_journal.specs.Ranges.{Span, Range, held, serves, touches}
 use Rattle.mc_journal.specs.Readings.{selected}
@@ -159,7 +160,7 @@ dropped track place _ st = st
 
 -- ---- the ranges after a record, of those before it and the set before it
 
-abbrev pub after : List Told → Choice → Stand → DemuxRecord → Stand
+abbrev pub after : List Packet → Choice → Stand → DemuxRecord → Stand
 after ps set st (Opened by chosen_set) = opened chosen_set
 after ps set st (Sought by chosen_set t dir Cached) = chosen (serves ps chosen_set dir t) st
 after ps set st (Sought by chosen_set t dir Sent) = left st
@@ -171,13 +172,13 @@ after ps set st (Joined by) = joined set st
 after ps set st _ = st
 
 -- the range holds a packet of a selected track
-abbrev pub holds_any : List Told → Choice → Range → Bool
+abbrev pub holds_any : List Packet → Choice → Range → Bool
 holds_any ps set r = not (each_of set (λ track. not (is_some (first (held r ps track)))))
 
 -- a range that isn't current and holds no packet goes
-abbrev pub tidied : List Told → Choice → Stand → Stand
+abbrev pub tidied : List Packet → Choice → Stand → Stand
 tidied ps set st = record { current = st.current; others = filter (holds_any ps set) st.others }
 
-abbrev pub stand : List Told → List DemuxRecord → Stand
+abbrev pub stand : List Packet → List DemuxRecord → Stand
 stand ps [] = record { current = None; others = [] }
 stand ps (r ∷ h) = tidied ps (selected (r ∷ h)) (after ps (selected h) (stand ps h) r)

@@ -1,6 +1,5 @@
--- What a record tells of a packet, and a film's packets as they are told.
-use Rattle.std.specs.Prelude.{ℕ, ℤ, ◌==◌, nat_le, Bool, ◌&&◌, List, length}
-use Rattle.std.specs.List.{filter}
+-- What a record tells of a packet.
+use Rattle.std.specs.Prelude.{ℕ, ℤ, Bool, length}
 use Rattle.mc_packet.specs.Payload.{checksum}
 use Rattle.mc_packet.specs.declared.packet.Packet.{Packet}
 use Rattle.mc_packet.specs.declared.packet.Pos.{Pos}
@@ -23,10 +22,3 @@ told p = record { track = p.track; pos = p.pos; time = p.time; len = length p.bo
 -- the record of a packet that a reader was given
 abbrev pub gave_by : ℕ → Packet → DemuxRecord
 gave_by by p = Gave by p.track p.pos p.time (length p.body) (checksum p.body) p.sync p.key
-
-abbrev pub is_fresh : ℕ → ℕ → Told → Bool
-is_fresh track block p = p.track == track && nat_le block p.pos.block
-
--- the packets of a track whose block stands at an offset or behind it, in file order
-abbrev pub fresh : ℕ → ℕ → List Told → List Told
-fresh track block packets = filter (is_fresh track block) packets

@@ -12,8 +12,9 @@ use Rattle.mc_journal.specs.declared.record.Cause.{Cause}
 use Rattle.mc_journal.specs.declared.record.Cause.TheVariants.{Limit, TooMany, TrackChanged}
 use Rattle.mc_journal.specs.declared.record.DemuxRecord.{DemuxRecord}
 use Rattle.mc_journal.specs.declared.record.DemuxRecord.TheVariants.{Opened, Sought, Switched, Found, Fed, Failed, Starved, Dropped, Joined, Overfull, Faulted, Wanting, Shown, Refused}
-use Rattle.mc_journal.specs.Told.{Told}
-use Rattle.mc_journal.specs.Choices.{or_else, has, is_empty, kept_of}
+use Rattle.mc_packet.specs.declared.packet.Packet.{Packet}
+use Rattle.mc_packet.specs.Choices.{or_else, has, is_empty}
+use Rattle.mc_journal.specs.Choices.{kept_of}
 use Rattle.mc_journal.specs.Films.{Film, at, rank, first_lane, first, track_of, IsRegular}
 use Rattle.mc_journal.specs.Ranges.{Span, Range, held, within}
 use Rattle.mc_journal.specs.Readings.{selected, follows, last_fault}
@@ -24,22 +25,22 @@ use Rattle.mc_journal.specs.Allowed.{joinable, May}
 -- ---- the cut that a limit asks for
 
 -- the first packet of a track that may be cut: in the current range one before the head
-abbrev pub cuttable : Option ℕ → List Told → Option Told
+abbrev pub cuttable : Option ℕ → List Packet → Option Packet
 cuttable None ps = first ps
 cuttable (Some place) [] = None
 cuttable (Some place) (p ∷ ps) = if nat_lt (at p) place then Some p else None
 
-abbrev pub earlier : Option Told → Option Told → Option Told
+abbrev pub earlier : Option Packet → Option Packet → Option Packet
 earlier None q = q
 earlier (Some p) None = Some p
 earlier (Some p) (Some q) = if nat_le (at p) (at q) then Some p else Some q
 
-abbrev pub cut_first : List Told → (ℕ → Option ℕ) → Range → Option ℕ → Option Told
+abbrev pub cut_first : List Packet → (ℕ → Option ℕ) → Range → Option ℕ → Option Packet
 cut_first ps upto r None = None
 cut_first ps upto r (Some track) = cuttable (upto track) (held r ps track)
 
 -- the least of the tracks' first packets
-abbrev pub victim : List Told → Choice → (ℕ → Option ℕ) → Range → Option Told
+abbrev pub victim : List Packet → Choice → (ℕ → Option ℕ) → Range → Option Packet
 victim ps set upto r = earlier (cut_first ps upto r set.video) (earlier (cut_first ps upto r set.audio) (cut_first ps upto r set.sub))
 
 abbrev pub at_most : Option ℕ → ℕ → ℕ
@@ -47,18 +48,18 @@ at_most None n = n
 at_most (Some m) n = min m n
 
 -- the next sync point after the first packet, else the end of the span
-abbrev pub next_sync : ℕ → List Told → ℕ
+abbrev pub next_sync : ℕ → List Packet → ℕ
 next_sync to [] = to
 next_sync to (p ∷ ps) = option_map_or at (first (filter (λ q. q.sync) ps)) to
 
 -- the track and the places are those of the cut
-abbrev pub IsCut : List Told → Choice → (ℕ → Option ℕ) → ℕ → ℕ → ℕ → Range → Type 0
+abbrev pub IsCut : List Packet → Choice → (ℕ → Option ℕ) → ℕ → ℕ → ℕ → Range → Type 0
 IsCut ps set upto track from to r =
     IsSomeAnd (victim ps set upto r) (λ p. p.track ≡ track)
     × IsSomeAnd (r.spans track) (λ s. (from ≡ s.from) × (to ≡ at_most (upto track) (next_sync s.to (held r ps track))))
 
 -- in the last range that isn't current, else in the current one, up to the head at most
-abbrev pub CutsIn : List Told → Choice → (ℕ → ℕ) → ℕ → ℕ → ℕ → Option Range → List Range → Type 0
+abbrev pub CutsIn : List Packet → Choice → (ℕ → ℕ) → ℕ → ℕ → ℕ → Option Range → List Range → Type 0
 CutsIn ps set place track from to current [] = IsSomeAnd current (IsCut ps set (λ k. Some (place k)) track from to)
 CutsIn ps set place track from to current (r ∷ []) = IsCut ps set (λ k. None) track from to r
 CutsIn ps set place track from to current (r ∷ q ∷ rs) = CutsIn ps set place track from to current (q ∷ rs)
@@ -75,7 +76,7 @@ abbrev pub due_span : Cause → ℕ → Option Span → Bool → List Due
 due_span cause track None some = []
 due_span cause track (Some s) some = if some then record { track = track; from = s.from; to = s.to; cause = cause } ∷ [] else []
 
-abbrev pub due_track : Cause → List Told → Range → Option ℕ → List Due
+abbrev pub due_track : Cause → List Packet → Range → Option ℕ → List Due
 due_track cause ps r None = []
 due_track cause ps r (Some track) = due_span cause track (r.spans track) (is_some (first (held r ps track)))
 
@@ -88,23 +89,23 @@ put_all [] es = es
 put_all (d ∷ ds) es = put_in d (put_all ds es)
 
 -- the spans of a range that hold packets, by rising track
-abbrev pub due_range : Cause → List Told → Choice → Range → List Due
+abbrev pub due_range : Cause → List Packet → Choice → Range → List Due
 due_range cause ps set r = put_all (due_track cause ps r set.video) (put_all (due_track cause ps r set.audio) (due_track cause ps r set.sub))
 
-abbrev pub due_ranges : Cause → List Told → Choice → List Range → List Due
+abbrev pub due_ranges : Cause → List Packet → Choice → List Range → List Due
 due_ranges cause ps set [] = []
 due_ranges cause ps set (r ∷ rs) = due_range cause ps set r ++ due_ranges cause ps set rs
 
 -- of the current range the tracks that the new set lacks, then all other ranges
-abbrev pub due_switch : List Told → Choice → Choice → Stand → List Due
+abbrev pub due_switch : List Packet → Choice → Choice → Stand → List Due
 due_switch ps old new st =
     option_map_or (due_range TrackChanged ps (kept_of old (λ track. not (has new track)))) st.current [] ++ due_ranges TrackChanged ps old st.others
 
 -- beside a new current range the tenth of the others
-abbrev pub due_found : List Told → Choice → Stand → List Due
+abbrev pub due_found : List Packet → Choice → Stand → List Due
 due_found ps set st = option_map_or (λ r. []) st.current (due_ranges (TooMany 11) ps set (drop 9 st.others))
 
-abbrev pub due : List Told → List DemuxRecord → List Due
+abbrev pub due : List Packet → List DemuxRecord → List Due
 due ps [] = []
 due ps (Switched by set added t ∷ h) = due_switch ps (selected h) set (stand ps h)
 due ps (Sought by set t dir how ∷ h) = if follows h then due ps h else []
@@ -140,15 +141,15 @@ are_told [] = true
 are_told (d ∷ ds) = false
 
 -- the journal is begun, no seek has to be sent again, no drop is due, and no join has to come
-abbrev pub is_still : List Told → List DemuxRecord → Bool
+abbrev pub is_still : List Packet → List DemuxRecord → Bool
 is_still ps h = is_begun h && (not (follows h) && (are_told (due ps h) && not (joins_now h && joinable ps h)))
 
-abbrev pub is_dropped_in_turn : List Told → List DemuxRecord → Cause → Bool
+abbrev pub is_dropped_in_turn : List Packet → List DemuxRecord → Cause → Bool
 is_dropped_in_turn ps h (Limit bytes max) = is_still ps h
 is_dropped_in_turn ps h _ = not (follows h)
 
 -- a seek that repeats a pending one comes first, then the drops that are due, then the joins, then anything else
-abbrev pub is_in_turn : List Told → List DemuxRecord → DemuxRecord → Bool
+abbrev pub is_in_turn : List Packet → List DemuxRecord → DemuxRecord → Bool
 is_in_turn ps h (Opened by set) = true
 is_in_turn ps h (Sought by set t dir how) = follows h || is_still ps h
 is_in_turn ps h (Dropped by removal) = is_dropped_in_turn ps h removal.cause
@@ -162,15 +163,15 @@ abbrev pub ends_in : ℕ → Option Range → Bool
 ends_in track None = false
 ends_in track (Some r) = is_some r.ending && is_some (r.spans track)
 
-abbrev pub can_end : List Told → List DemuxRecord → ℕ → Bool
+abbrev pub can_end : List Packet → List DemuxRecord → ℕ → Bool
 can_end ps h track = ends_in track (stand ps h).current
 
 -- a span that is read on to a block gains a packet
-abbrev pub gains : List Told → ℕ → ℕ → Option Span → Bool
+abbrev pub gains : List Packet → ℕ → ℕ → Option Span → Bool
 gains ps block track None = false
 gains ps block track (Some s) = is_some (first (within s.to (grown (first_lane block) s).to (track_of track ps)))
 
-abbrev pub gains_in : List Told → ℕ → Option Range → ℕ → Bool
+abbrev pub gains_in : List Packet → ℕ → Option Range → ℕ → Bool
 gains_in ps block None track = false
 gains_in ps block (Some r) track = gains ps block track (r.spans track)
 
@@ -178,10 +179,10 @@ abbrev pub any_track : Choice → Option ℕ
 any_track set = or_else set.video (or_else set.audio set.sub)
 
 -- the selected track that takes packets of a part up to a block, or none
-abbrev pub taker : List Told → List DemuxRecord → ℕ → Option ℕ
+abbrev pub taker : List Packet → List DemuxRecord → ℕ → Option ℕ
 taker ps h block = any_track (kept_of (selected h) (gains_in ps block (stand ps h).current))
 
-abbrev pub TellsDrop : List Told → Limits → List DemuxRecord → ℕ → ℕ → ℕ → Cause → Type 0
+abbrev pub TellsDrop : List Packet → Limits → List DemuxRecord → ℕ → ℕ → ℕ → Cause → Type 0
 TellsDrop ps limits h track from to (Limit bytes max) = (bytes ≡ back ps h) × (max ≡ limits.back) × (max < bytes)
     × CutsIn ps (selected h) (λ k. head ps k h) track from to (stand ps h).current (stand ps h).others
 TellsDrop ps limits h track from to cause = IsDue (due ps h) track from to cause

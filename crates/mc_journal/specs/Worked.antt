@@ -14,8 +14,9 @@ use Rattle.mc_journal.specs.declared.record.Cause.{Cause}
 use Rattle.mc_journal.specs.declared.record.Cause.TheVariants.{Limit, TrackChanged}
 use Rattle.mc_journal.specs.declared.record.Sought.TheVariants.{Cached, Sent}
 use Rattle.mc_journal.specs.declared.record.DemuxRecord.{DemuxRecord}
-use Rattle.mc_journal.specs.declared.record.DemuxRecord.TheVariants.{Opened, Sought, Switched, Found, Fed, Dropped, Joined, Gave, Ended, Overfull, Shown, Failed, Faulted, Refused}
-use Rattle.mc_journal.specs.Told.{Told}
+use Rattle.mc_journal.specs.declared.record.DemuxRecord.TheVariants.{Opened, Sought, Switched, Found, Fed, Dropped, Joined, Ended, Overfull, Shown, Failed, Faulted, Refused}
+use Rattle.mc_packet.specs.declared.packet.Packet.{Packet}
+use Rattle.mc_journal.specs.Told.{gave_by}
 use Rattle.mc_journal.specs.WorkedFilms.{opening, c0, c1, c2, d0, a100, a113, a114, a127, a128, a150, a157, a171, a185, a207, a214, a93, b120, b141, b169, v106, v107, v121, v134, v143, v155, v164, v178, v200, v221, v86}
 use Rattle.mc_journal.specs.Used.{onto}
 
@@ -46,14 +47,11 @@ pass_by from to = Fed 5 from to None None
 abbrev pub finish : Mark → DemuxRecord
 finish m = Fed 5 m m None (Some Clean)
 
-abbrev pub gave_told : ℕ → Told → DemuxRecord
-gave_told by p = Gave by p.track p.pos p.time p.len p.sum p.sync p.key
+abbrev pub video : Packet → DemuxRecord
+video p = gave_by 2 p
 
-abbrev pub video : Told → DemuxRecord
-video p = gave_told 2 p
-
-abbrev pub audio : Told → DemuxRecord
-audio p = gave_told 3 p
+abbrev pub audio : Packet → DemuxRecord
+audio p = gave_by 3 p
 
 abbrev pub seek : ℤ → DemuxRecord
 seek t = Sought 0 both t Back Sent
@@ -76,6 +74,11 @@ range_to low high to = record {
   bounds = Some (pos low, pos high);
   spans = record { video = Some (place 0 0, place to 0); audio = Some (place 0 0, place to 0); sub = None };
 }
+
+-- ---- a wrong one: the tracks that are selected are switched to
+
+abbrev pub switched_to_same : List DemuxRecord
+switched_to_same = Switched 0 both (tracks None None) (pos 0) ∷ start
 
 -- ---- drain: the whole first film is read and given
 

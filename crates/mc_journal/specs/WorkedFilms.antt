@@ -5,13 +5,13 @@ use Rattle.mc_packet.specs.declared.choice.Kind.TheVariants.{Video, Audio, Sub}
 use Rattle.mc_packet.specs.declared.walk.Ending.TheVariants.{Clean}
 use Rattle.mc_packet.specs.declared.walk.Level.TheVariants as levels
 use Rattle.mc_packet.specs.declared.walk.Mark.{Mark}
-use Rattle.mc_journal.specs.Told.{Told}
+use Rattle.mc_packet.specs.declared.packet.Packet.{Packet}
 use Rattle.mc_journal.specs.Films.{Film, Part}
 
 -- a frame of one octet: its track, block, time in nanoseconds, payload and mark
-abbrev pub packet : ℕ → ℕ → ℕ → ℕ → Bool → Told
+abbrev pub packet : ℕ → ℕ → ℕ → ℕ → Bool → Packet
 packet track block time octet sync =
-    record { track = track; pos = record { block = block; lane = 0 }; time = pos time; len = 1; sum = octet; sync = sync; key = sync }
+    record { track = track; pos = record { block = block; lane = 0 }; time = pos time; body = octet ∷ []; sync = sync; key = sync }
 
 abbrev pub opening : Mark
 opening = record { pos = 0; level = levels.Segment }
@@ -33,61 +33,61 @@ part_by (b ∷ bs) m = if nat_le m.pos b.place then record { to = b.past; ending
 -- ---- the first film: three Clusters, at 78, 135 and 192; a video track with keyframes at 0, 120 and 240 ms, and an audio
 -- track every 30 ms
 
-abbrev pub v86 : Told
+abbrev pub v86 : Packet
 v86 = packet 1 86 0 16 true
 
-abbrev pub a93 : Told
+abbrev pub a93 : Packet
 a93 = packet 2 93 0 32 true
 
-abbrev pub a100 : Told
+abbrev pub a100 : Packet
 a100 = packet 2 100 30000000 33 true
 
-abbrev pub v107 : Told
+abbrev pub v107 : Packet
 v107 = packet 1 107 40000000 17 false
 
-abbrev pub a114 : Told
+abbrev pub a114 : Packet
 a114 = packet 2 114 60000000 34 true
 
-abbrev pub v121 : Told
+abbrev pub v121 : Packet
 v121 = packet 1 121 80000000 18 false
 
-abbrev pub a128 : Told
+abbrev pub a128 : Packet
 a128 = packet 2 128 90000000 35 true
 
-abbrev pub v143 : Told
+abbrev pub v143 : Packet
 v143 = packet 1 143 120000000 19 true
 
-abbrev pub a150 : Told
+abbrev pub a150 : Packet
 a150 = packet 2 150 120000000 36 true
 
-abbrev pub a157 : Told
+abbrev pub a157 : Packet
 a157 = packet 2 157 150000000 37 true
 
-abbrev pub v164 : Told
+abbrev pub v164 : Packet
 v164 = packet 1 164 160000000 20 false
 
-abbrev pub a171 : Told
+abbrev pub a171 : Packet
 a171 = packet 2 171 180000000 38 true
 
-abbrev pub v178 : Told
+abbrev pub v178 : Packet
 v178 = packet 1 178 200000000 21 false
 
-abbrev pub a185 : Told
+abbrev pub a185 : Packet
 a185 = packet 2 185 210000000 39 true
 
-abbrev pub v200 : Told
+abbrev pub v200 : Packet
 v200 = packet 1 200 240000000 22 true
 
-abbrev pub a207 : Told
+abbrev pub a207 : Packet
 a207 = packet 2 207 240000000 40 true
 
-abbrev pub a214 : Told
+abbrev pub a214 : Packet
 a214 = packet 2 214 270000000 41 true
 
-abbrev pub v221 : Told
+abbrev pub v221 : Packet
 v221 = packet 1 221 280000000 23 false
 
-abbrev pub one_packets : List Told
+abbrev pub one_packets : List Packet
 one_packets =
     v86 ∷ a93 ∷ a100 ∷ v107 ∷ a114 ∷ v121 ∷ a128
     ∷ v143 ∷ a150 ∷ a157 ∷ v164 ∷ a171 ∷ v178 ∷ a185
@@ -126,37 +126,37 @@ one = record { packets = one_packets; ending = Clean; known = one_known; part = 
 
 -- ---- the second film: one Cluster, at 98; a video track with keyframes at 0 and 160 ms, and two audio tracks
 
-abbrev pub v106 : Told
+abbrev pub v106 : Packet
 v106 = packet 1 106 0 16 true
 
-abbrev pub a113 : Told
+abbrev pub a113 : Packet
 a113 = packet 2 113 0 32 true
 
-abbrev pub b120 : Told
+abbrev pub b120 : Packet
 b120 = packet 3 120 0 48 true
 
-abbrev pub a127 : Told
+abbrev pub a127 : Packet
 a127 = packet 2 127 60000000 33 true
 
-abbrev pub v134 : Told
+abbrev pub v134 : Packet
 v134 = packet 1 134 80000000 17 false
 
-abbrev pub b141 : Told
+abbrev pub b141 : Packet
 b141 = packet 3 141 100000000 49 true
 
-abbrev pub a148 : Told
+abbrev pub a148 : Packet
 a148 = packet 2 148 120000000 34 true
 
-abbrev pub v155 : Told
+abbrev pub v155 : Packet
 v155 = packet 1 155 160000000 18 true
 
-abbrev pub a162 : Told
+abbrev pub a162 : Packet
 a162 = packet 2 162 180000000 35 true
 
-abbrev pub b169 : Told
+abbrev pub b169 : Packet
 b169 = packet 3 169 200000000 50 true
 
-abbrev pub two_packets : List Told
+abbrev pub two_packets : List Packet
 two_packets = v106 ∷ a113 ∷ b120 ∷ a127 ∷ v134 ∷ b141 ∷ a148 ∷ v155 ∷ a162 ∷ b169 ∷ []
 
 abbrev pub d0 : ℕ → Mark

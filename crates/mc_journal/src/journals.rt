@@ -8,7 +8,7 @@ ghost use Rattle.mc_journal.specs.Films.{IsFilm, IsRegular};
 ghost use Rattle.mc_journal.specs.Legal.{IsLegal};
 ghost use Rattle.mc_journal.specs.WorkedFilms.{one, two, one_packets, one_known, opening, c0};
 ghost use Rattle.mc_journal.specs.Crowded.{many, crowded, newest_dropped};
-ghost use Rattle.mc_journal.specs.Worked.{usual, none_behind, one_ahead, drained, sent, joined, drained_twice, before_the_start, two_ranges, dropped, overfull, switched, failed_read, refused, waited, repeated, start, read, drained_forward, forward_to_last, forward_sent, forward_at, too_early, too_late, skips, ends_early, unjoined};
+ghost use Rattle.mc_journal.specs.Worked.{usual, none_behind, one_ahead, drained, sent, joined, drained_twice, before_the_start, two_ranges, dropped, overfull, switched, failed_read, refused, waited, repeated, start, read, drained_forward, forward_to_last, forward_sent, forward_at, too_early, too_late, skips, ends_early, unjoined, switched_to_same};
 
 /// The first worked film is one and is regular, so that its whole reading is legal.
 pub fn worked_films()
@@ -49,13 +49,14 @@ pub fn forward_journals()
 
 /// Wrong journals are not: a seek back served though a later keyframe may be unread, one forward
 /// served though an earlier one may be, a packet left out, an end before the last packet, a join
-/// left out.
+/// left out, a switch to what is selected.
 pub fn wrong_journals()
     ensures early { IsUsed one usual too_early → ⊥ }
     ensures late { IsUsed one usual too_late → ⊥ }
     ensures skips { IsUsed one usual skips → ⊥ }
     ensures ends { IsUsed one usual ends_early → ⊥ }
     ensures unjoined { IsUsed one usual unjoined → ⊥ }
+    ensures same { IsUsed one usual switched_to_same → ⊥ }
 {}
 
 /// So is one by whose seeks an eleventh range comes to stand: the one that was used longest ago goes.

@@ -16,7 +16,10 @@ use Rattle.mc_demux.specs.declared.answer.Reading.{Reading}
 use Rattle.mc_demux.specs.declared.answer.Reading.TheVariants as reads
 use Rattle.mc_demux.specs.Records.{WroteAll}
 use Rattle.mc_script.specs.declared.acts.Act.TheVariants as acts
-use Rattle.mc_script.specs.Plays.{Asks, Begins, Leaves, May, Readings, caller, gaves, is_answer, is_gave, reader, selection, track_of}
+use Rattle.mc_journal.specs.Drives.{Asks, Readings, gaves, is_answer, is_gave, selection}
+use Rattle.mc_script.specs.Plays.{Begins, Leaves, May}
+use Rattle.mc_journal.specs.Callers.{by_of, reader}
+use Rattle.mc_packet.specs.Choices.{track_of}
 use Rattle.mc_lines.specs.Calls.{Ahead, AnswersOn, Jobs, Reads, at}
 use Rattle.mc_lines.specs.Lines.{Orders, ReadsOn, ReadsOne, Stands, halt_of, halted, is_packet}
 use Rattle.mc_lines.proofs.Parts.{begin, more}
@@ -70,7 +73,7 @@ quiet rd kind count old now new n k t track none e = record {
 
 -- a line that ends with one
 told : (rd : Readings) (kind : Kind) (count : ℕ) (old now new : List DemuxRecord) (k : ℕ) (own : DemuxRecord) (b : Begins rd (acts.Read kind count) old now) → track_of (selection old) kind ≡ Some k
-    → rd.front new k ≡ None → (w : WroteAll (reader kind) (own ∷ []) now new) → reader kind ≡ caller own → May rd (acts.Read kind count) old b.part own
+    → rd.front new k ≡ None → (w : WroteAll (reader kind) (own ∷ []) now new) → reader kind ≡ by_of own → May rd (acts.Read kind count) old b.part own
     → Leaves rd (acts.Read kind count) None old new
 told rd kind count old now new k own b track none w c may =
     let all = more rd (acts.Read kind count) old now new (reader kind) own b w c may in record {

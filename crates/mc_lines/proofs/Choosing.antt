@@ -10,7 +10,7 @@ use Rattle.mc_lines.specs.declared.next.Sight.{Sight}
 use Rattle.mc_lines.specs.declared.next.Sight.TheVariants.{Packet, Finish, Wait}
 use Rattle.mc_packet.specs.declared.packet.Pos.{Pos}
 use Rattle.mc_journal.specs.Films.{rank}
-use Rattle.mc_script.specs.Plays.{track_of}
+use Rattle.mc_packet.specs.Choices.{track_of}
 use Rattle.mc_lines.specs.Calls.{Ahead}
 use Rattle.mc_lines.specs.Nexts.{IsNextBy, Sees, chosen}
 

@@ -6,7 +6,7 @@ use Rattle.mc_packet.specs.declared.choice.Kind.{Kind}
 use Rattle.mc_packet.specs.declared.choice.Kind.TheVariants.{Video, Audio, Sub}
 use Rattle.mc_packet.specs.declared.choice.Choice.{Choice}
 use Rattle.mc_packet.specs.declared.packet.Packet.{Packet}
-use Rattle.mc_journal.specs.Choices.{is_empty, nothing, or_else}
+use Rattle.mc_packet.specs.Choices.{is_empty, nothing, or_else}
 use Rattle.mc_journal.specs.Films.{rank}
 use Rattle.mc_journal.specs.Told.{gave_by}
 use Rattle.mc_journal.specs.declared.record.DemuxRecord.{DemuxRecord}
@@ -17,8 +17,11 @@ use Rattle.mc_demux.specs.declared.answer.Reading.{Reading}
 use Rattle.mc_demux.specs.declared.answer.Reading.TheVariants as reads
 use Rattle.mc_demux.specs.Records.{HasRoom, WroteAll}
 use Rattle.mc_script.specs.declared.acts.Act.TheVariants as acts
-use Rattle.mc_script.specs.Plays.{Begins, Leaves, May, OfEach, Readings, caller, is_order, is_outcome, reader, selection, still_left, tells_reader, track_of, untold}
-use Rattle.mc_script.specs.Plays.{IsNext, Next as Step, give, tell, turn}
+use Rattle.mc_script.specs.Plays.{Begins, Leaves, May}
+use Rattle.mc_journal.specs.Drives.{OfEach, Readings, is_order, is_outcome, selection, still_left, tells_reader, untold}
+use Rattle.mc_journal.specs.Callers.{by_of, reader}
+use Rattle.mc_packet.specs.Choices.{track_of}
+use Rattle.mc_journal.specs.Drives.{IsNextStep, Step, give, tell, turn}
 use Rattle.mc_lines.specs.declared.next.Next.{Next}
 use Rattle.mc_lines.specs.declared.next.Next.TheVariants as nexts
 use Rattle.mc_lines.specs.Calls.{Ahead, AnswersOn, AtRest, Reads, at}
@@ -101,7 +104,7 @@ less_room : {by : ℕ} {now new : List DemuxRecord} {own : DemuxRecord} → HasR
 less_room h w = omega (arith, longer w)
 
 -- one more call that tells nobody
-quiet : (rd : Readings) (old now new : List DemuxRecord) (left : Choice) (by : ℕ) (own : DemuxRecord) (d : Drained rd old now left) (w : WroteAll by (own ∷ []) now new) → by ≡ caller own
+quiet : (rd : Readings) (old now new : List DemuxRecord) (left : Choice) (by : ℕ) (own : DemuxRecord) (d : Drained rd old now left) (w : WroteAll by (own ∷ []) now new) → by ≡ by_of own
     → ((n : ℕ) → TellsNot n own) → is_order own ≡ false → May rd acts.Drain old d.begins.part own → Drained rd old new left
 quiet rd old now new left by own d w c none f may = record {
   begins = more rd acts.Drain old now new by own d.begins w c may;
@@ -110,7 +113,7 @@ quiet rd old now new left by own d w c none f may = record {
 }
 
 -- one more call that tells a track's reader
-loud : (rd : Readings) (old now new : List DemuxRecord) (left : Choice) (by : ℕ) (own : DemuxRecord) (kind : Kind) (k : ℕ) (d : Drained rd old now left) (w : WroteAll by (own ∷ []) now new) → by ≡ caller own
+loud : (rd : Readings) (old now new : List DemuxRecord) (left : Choice) (by : ℕ) (own : DemuxRecord) (kind : Kind) (k : ℕ) (d : Drained rd old now left) (w : WroteAll by (own ∷ []) now new) → by ≡ by_of own
     → TellsOnly (reader kind) k own → is_order own ≡ false → track_of left kind ≡ Some k → May rd acts.Drain old d.begins.part own → Drained rd old new (without left kind)
 loud rd old now new left by own kind k d w c only f track may = record {
   begins = more rd acts.Drain old now new by own d.begins w c may;
@@ -125,17 +128,17 @@ step_of (nexts.Give kind k) = give kind k
 step_of (nexts.Tell kind k) = tell kind k
 step_of nexts.Turn = turn
 
-is_next : (rd : Readings) (h : List DemuxRecord) (left : Choice) (n : Next) → IsNextBy (at rd h) left n → IsNext rd h left (step_of n)
+is_next : (rd : Readings) (h : List DemuxRecord) (left : Choice) (n : Next) → IsNextBy (at rd h) left n → IsNextStep rd h left (step_of n)
 is_next rd h left (nexts.Give kind k) e = e
 is_next rd h left (nexts.Tell kind k) e = e
 is_next rd h left nexts.Turn e = e
 
 -- the step is one of the drain so far
 here : (rd : Readings) (old now : List DemuxRecord) (left : Choice) (n : Next) (d : Drained rd old now left) → IsNextBy (at rd now) left n
-    → IsNext rd (old ++ d.begins.part) (untold (selection old) d.begins.part) (step_of n)
+    → IsNextStep rd (old ++ d.begins.part) (untold (selection old) d.begins.part) (step_of n)
 here rd old now left n d h =
-    let one : IsNext rd (old ++ d.begins.part) left (step_of n) = subst (λ (x : List DemuxRecord). IsNext rd x left (step_of n)) d.begins.grows (is_next rd now left n h) in
-    subst (λ (x : Choice). IsNext rd (old ++ d.begins.part) x (step_of n)) d.left_is one
+    let one : IsNextStep rd (old ++ d.begins.part) left (step_of n) = subst (λ (x : List DemuxRecord). IsNextStep rd x left (step_of n)) d.begins.grows (is_next rd now left n h) in
+    subst (λ (x : Choice). IsNextStep rd (old ++ d.begins.part) x (step_of n)) d.left_is one
 
 if_some : (o : Option ℕ) (k : ℕ) (P : ℕ → Type 0) → IfSome o P → o ≡ Some k → P k
 if_some o k P h e = let at : IfSome (Some k) P = subst (λ (x : Option ℕ). IfSome x P) e h in at
@@ -151,12 +154,12 @@ gave_packet : (rd : Readings) (old now new : List DemuxRecord) (left : Choice) (
     → rd.front now k ≡ Some (rank p.pos) → WroteAll (reader kind) (gave_by (reader kind) p ∷ []) now new → Drained rd old new left
 gave_packet rd old now new left kind k p same d n front w =
     let place : rd.front (old ++ d.begins.part) k ≡ Some (rank p.pos) = rw (← d.begins.grows) front in
-    let next : IsNext rd (old ++ d.begins.part) (untold (selection old) d.begins.part) (give kind k) = here rd old now left (nexts.Give kind k) d n in
+    let next : IsNextStep rd (old ++ d.begins.part) (untold (selection old) d.begins.part) (give kind k) = here rd old now left (nexts.Give kind k) d n in
     quiet rd old now new left (reader kind) (gave_by (reader kind) p) d w refl (λ n j. refl) refl (
       kind,
       refl,
       subst (λ (x : ℕ). rd.front (old ++ d.begins.part) x ≡ Some (rank p.pos)) (sym same) place,
-      subst (λ (x : ℕ). IsNext rd (old ++ d.begins.part) (untold (selection old) d.begins.part) (give kind x)) (sym same) next,
+      subst (λ (x : ℕ). IsNextStep rd (old ++ d.begins.part) (untold (selection old) d.begins.part) (give kind x)) (sym same) next,
     )
 
 pub gave : (rd : Readings) (old now new : List DemuxRecord) (left : Choice) (kind : Kind) (k : ℕ) (r : Reading) → Drained rd old now left → IsNextBy (at rd now) left (nexts.Give kind k)
@@ -186,7 +189,7 @@ told rd old now new left kind k reads.Wanting d n h =
 
 -- ---- where the demuxer turns
 
-turned_by : (rd : Readings) (old now new : List DemuxRecord) (left : Choice) (own : DemuxRecord) → Drained rd old now left → IsNextBy (at rd now) left nexts.Turn → is_outcome own ≡ true → caller own ≡ 5
+turned_by : (rd : Readings) (old now new : List DemuxRecord) (left : Choice) (own : DemuxRecord) → Drained rd old now left → IsNextBy (at rd now) left nexts.Turn → is_outcome own ≡ true → by_of own ≡ 5
     → WroteAll 5 (own ∷ []) now new → Drained rd old new left
 turned_by rd old now new left (Found by starts) d n is five w = quiet rd old now new left 5 (Found by starts) d w (sym five) (λ n j. refl) refl (five, here rd old now left nexts.Turn d n)
 turned_by rd old now new left (Fed by from to took ending) d n is five w = quiet rd old now new left 5 (Fed by from to took ending) d w (sym five) (λ n j. refl) refl (five, here rd old now left nexts.Turn d n)

@@ -19,7 +19,9 @@ use Rattle.mc_demux.specs.declared.answer.Selected.TheVariants.{Same, Changed}
 use Rattle.mc_demux.specs.Records.{IsExtra, WroteAll}
 use Rattle.mc_script.specs.declared.acts.Act.{Act}
 use Rattle.mc_script.specs.declared.acts.Act.TheVariants as acts
-use Rattle.mc_script.specs.Plays.{Ends, IsRepeated, Leaves, May, Readings, caller, is_order, is_outcome, newest}
+use Rattle.mc_script.specs.Plays.{Ends, Leaves, May}
+use Rattle.mc_journal.specs.Drives.{IsRepeated, Readings, is_order, is_outcome, newest}
+use Rattle.mc_journal.specs.Callers.{by_of}
 use Rattle.mc_lines.specs.Calls.{Ahead, Fails, Jobs, Seeks, Selects, Shows, at, pending_of, switch_records}
 use Rattle.mc_lines.specs.Lines.{Line, Orders, settled}
 use Rattle.mc_lines.proofs.Counts.{any-call}
@@ -27,7 +29,7 @@ use Rattle.mc_lines.proofs.Parts.{call_each, extras_each, none}
 use Rattle.mc_lines.proofs.Growing.{orders_none, orders_quiet}
 
 -- a line of one call with one record of its own
-one : (rd : Readings) (act : Act) (old new : List DemuxRecord) (own : DemuxRecord) (w : WroteAll 0 (own ∷ []) old new) → 0 ≡ caller own → May rd act old [] own
+one : (rd : Readings) (act : Act) (old new : List DemuxRecord) (own : DemuxRecord) (w : WroteAll 0 (own ∷ []) old new) → 0 ≡ by_of own → May rd act old [] own
     → Ends rd act None old (own ∷ w.extras) → Leaves rd act None old new
 one rd act old new own w c h e = record { part = own ∷ w.extras; grows = w.grows; each = call_each rd act old [] old new 0 own w c h; ends = e }
 

@@ -5,7 +5,7 @@ use Rattle.mc_packet.specs.declared.choice.Choice.{Choice}
 use Rattle.mc_journal.specs.declared.record.DemuxRecord.{DemuxRecord}
 use Rattle.mc_demux.specs.declared.answer.DemuxError.{DemuxError}
 use Rattle.mc_demux.specs.declared.answer.Reading.{Reading}
-use Rattle.mc_script.specs.Plays.{Readings}
+use Rattle.mc_journal.specs.Drives.{Readings}
 use Rattle.mc_lines.specs.declared.halt.Halt.{Halt}
 use Rattle.mc_lines.specs.declared.next.Next.{Next}
 use Rattle.mc_lines.specs.Calls.{Ahead, Reads, at}

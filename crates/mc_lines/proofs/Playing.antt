@@ -16,7 +16,9 @@ use Rattle.mc_demux.specs.declared.job.Job.{Job}
 use Rattle.mc_script.specs.declared.acts.Act.{Act}
 use Rattle.mc_script.specs.declared.acts.Act.TheVariants as acts
 use Rattle.mc_script.specs.Pairing.{IsPaired}
-use Rattle.mc_script.specs.Plays.{Begins, Leaves, May, Played, PlayedInPart, Readings, caller, gives_none, is_order, is_outcome, taken_after}
+use Rattle.mc_script.specs.Plays.{Begins, Leaves, May, Played, PlayedInPart, taken_after}
+use Rattle.mc_journal.specs.Drives.{Readings, gives_none, is_order, is_outcome}
+use Rattle.mc_journal.specs.Callers.{by_of}
 use Rattle.mc_lines.specs.declared.halt.Halt.{Halt}
 use Rattle.mc_lines.specs.declared.halt.Halt.TheVariants as halts
 use Rattle.mc_lines.specs.Calls.{Ahead, Bears, Brings, Jobs, Outcome, at, number_of}
@@ -107,7 +109,7 @@ or-true : (b : Bool) → (b || true) ≡ true
 or-true true = refl
 or-true false = refl
 
-may_give : (rd : Readings) (old : List DemuxRecord) (own : DemuxRecord) → is_outcome own ≡ true → caller own ≡ 5 → May rd acts.DemuxGive old [] own
+may_give : (rd : Readings) (old : List DemuxRecord) (own : DemuxRecord) → is_outcome own ≡ true → by_of own ≡ 5 → May rd acts.DemuxGive old [] own
 may_give rd old (Found by starts) is five = (five, omega arith)
 may_give rd old (Fed by from to took ending) is five = (five, omega arith)
 may_give rd old (Failed by faults faults') is five = (five, omega arith)

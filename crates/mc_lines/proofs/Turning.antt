@@ -6,7 +6,9 @@ use Rattle.mc_journal.specs.declared.record.DemuxRecord.{DemuxRecord}
 use Rattle.mc_journal.specs.declared.record.DemuxRecord.TheVariants.{Found, Fed, Failed, Starved}
 use Rattle.mc_script.specs.declared.acts.Act.{Act}
 use Rattle.mc_script.specs.declared.acts.Act.TheVariants as acts
-use Rattle.mc_script.specs.Plays.{Begins, Leaves, May, Readings, caller, is_outcome, outcomes}
+use Rattle.mc_script.specs.Plays.{Begins, Leaves, May}
+use Rattle.mc_journal.specs.Drives.{Readings, is_outcome, outcomes}
+use Rattle.mc_journal.specs.Callers.{by_of}
 use Rattle.mc_lines.specs.declared.halt.Halt.{Halt}
 use Rattle.mc_lines.specs.declared.halt.Halt.TheVariants as halts
 use Rattle.mc_lines.specs.Calls.{Ahead, Fixed, Outcome, at}
@@ -24,7 +26,7 @@ pub start : (rd : Readings) (count : ℕ) (old : List DemuxRecord) → Turned rd
 start rd count old = record { begins = begin rd (acts.Demux count) old; so_many = refl }
 
 -- an outcome may stand there
-may_demux : (rd : Readings) (n : ℕ) (before a : List DemuxRecord) (own : DemuxRecord) → is_outcome own ≡ true → caller own ≡ 5 → outcomes a < n → May rd (acts.Demux n) before a own
+may_demux : (rd : Readings) (n : ℕ) (before a : List DemuxRecord) (own : DemuxRecord) → is_outcome own ≡ true → by_of own ≡ 5 → outcomes a < n → May rd (acts.Demux n) before a own
 may_demux rd n before a (Found by starts) is five h = (five, h)
 may_demux rd n before a (Fed by from to took ending) is five h = (five, h)
 may_demux rd n before a (Failed by faults faults') is five h = (five, h)

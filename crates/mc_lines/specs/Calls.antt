@@ -12,7 +12,7 @@ use Rattle.mc_journal.specs.declared.record.Sought.{Sought as How}
 use Rattle.mc_journal.specs.declared.record.Sought.TheVariants.{Sent}
 use Rattle.mc_journal.specs.declared.record.DemuxRecord.{DemuxRecord}
 use Rattle.mc_journal.specs.declared.record.DemuxRecord.TheVariants.{Sought, Switched, Failed, Ended, Overfull, Faulted, Wanting, Shown, Refused}
-use Rattle.mc_journal.specs.Choices.{is_empty}
+use Rattle.mc_packet.specs.Choices.{is_empty}
 use Rattle.mc_journal.specs.Films.{rank}
 use Rattle.mc_journal.specs.Readings.{direction, pending, target}
 use Rattle.mc_journal.specs.Told.{gave_by}
@@ -30,7 +30,8 @@ use Rattle.mc_demux.specs.declared.job.Job.{Job}
 use Rattle.mc_demux.specs.declared.job.Job.TheVariants.{SeekTo, Refresh, Resume, Read, Idle}
 use Rattle.mc_demux.specs.Outcomes.{HasRisen}
 use Rattle.mc_demux.specs.Records.{HasRoom, WroteAll}
-use Rattle.mc_script.specs.Plays.{Readings, OfEach, caller, is_order, is_outcome, newest, selection, untold}
+use Rattle.mc_journal.specs.Drives.{Readings, OfEach, is_order, is_outcome, newest, selection, untold}
+use Rattle.mc_journal.specs.Callers.{by_of}
 
 -- ---- what the next calls would answer
 
@@ -133,7 +134,7 @@ FailsIn least most _ = ⊤
 pub record Outcome (before after : ℕ) (old new : List DemuxRecord) : Type 0 where
   pub own : DemuxRecord
   pub is : is_outcome own ≡ true
-  pub by_demuxer : caller own ≡ 5
+  pub by_demuxer : by_of own ≡ 5
   pub fails : FailsIn before after own
   pub wrote : WroteAll 5 (own ∷ []) old new
 

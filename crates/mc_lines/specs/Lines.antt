@@ -8,7 +8,8 @@ use Rattle.mc_demux.specs.declared.answer.Reading.{Reading}
 use Rattle.mc_demux.specs.declared.answer.Reading.TheVariants as reads
 use Rattle.mc_demux.specs.Records.{HasRoom}
 use Rattle.mc_script.specs.declared.acts.Act.{Act}
-use Rattle.mc_script.specs.Plays.{Begins, Leaves, Readings, is_order, is_outcome}
+use Rattle.mc_script.specs.Plays.{Begins, Leaves}
+use Rattle.mc_journal.specs.Drives.{Readings, is_order, is_outcome}
 use Rattle.mc_lines.specs.declared.halt.Halt.{Halt}
 use Rattle.mc_lines.specs.declared.halt.Halt.TheVariants as halts
 use Rattle.mc_lines.specs.Calls.{Ahead, AnswersOn, FailsIn, Jobs, Outcome, Reads, at}

@@ -8,7 +8,8 @@ use Rattle.mc_lines.specs.declared.next.Next.{Next}
 use Rattle.mc_lines.specs.declared.next.Next.TheVariants.{Give, Tell, Turn}
 use Rattle.mc_lines.specs.declared.next.Sight.{Sight}
 use Rattle.mc_lines.specs.declared.next.Sight.TheVariants.{Packet, Finish, Wait}
-use Rattle.mc_script.specs.Plays.{OfEach, track_of}
+use Rattle.mc_journal.specs.Drives.{OfEach}
+use Rattle.mc_packet.specs.Choices.{track_of}
 use Rattle.mc_lines.specs.Calls.{Ahead}
 
 -- of two that are seen, the one that is served first: the lesser place, else the lesser number

@@ -5,7 +5,8 @@ use Rattle.mc_journal.specs.declared.record.DemuxRecord.{DemuxRecord}
 use Rattle.mc_demux.specs.declared.job.Job.{Job}
 use Rattle.mc_script.specs.declared.acts.Act.{Act}
 use Rattle.mc_script.specs.declared.acts.Act.TheVariants as acts
-use Rattle.mc_script.specs.Plays.{Begins, Leaves, Played, PlayedInPart, Readings, is_order, taken_after}
+use Rattle.mc_script.specs.Plays.{Begins, Leaves, Played, PlayedInPart, taken_after}
+use Rattle.mc_journal.specs.Drives.{Readings, is_order}
 use Rattle.mc_lines.specs.declared.halt.Halt.{Halt}
 use Rattle.mc_lines.specs.declared.halt.Halt.TheVariants as halts
 use Rattle.mc_lines.specs.Calls.{Ahead, Jobs, number_of}

@@ -1,8 +1,8 @@
 ghost use Rattle.std.specs.Prelude.{◌≡◌, None, Some, List, ℕ};
 ghost use Rattle.mc_outside.specs.Shelf.{content};
-ghost use Rattle.mc_journal.specs.Choices.{is_empty as empty_lem};
+ghost use Rattle.mc_packet.specs.Choices.{is_empty as empty_lem};
 ghost use Rattle.mc_script.specs.declared.acts.Act.TheVariants.{Drain};
-ghost use Rattle.mc_script.specs.Plays.{Readings};
+ghost use Rattle.mc_journal.specs.Drives.{Readings};
 ghost use Rattle.mc_lines.specs.Lines.{Grows, IsFull, Line};
 ghost use Rattle.mc_lines.specs.Nexts.{without as without_lem};
 

@@ -1,6 +1,6 @@
 ghost use Rattle.std.specs.Prelude.{◌≡◌, None, List, ℕ};
 ghost use Rattle.mc_script.specs.declared.acts.Act.TheVariants.{Seek, Show, Switch};
-ghost use Rattle.mc_script.specs.Plays.{Readings};
+ghost use Rattle.mc_journal.specs.Drives.{Readings};
 ghost use Rattle.mc_lines.specs.Lines.{IsFull, Line, Orders};
 
 use crate::halt::{Halt, settled};

@@ -8,7 +8,7 @@ pub trait Machine {
     ghost use Rattle.std.specs.Prelude.{◌≡◌, ℕ, ◌≤◌, List, Some, true};
     ghost use Rattle.mc_outside.specs.Shelf.{content};
     ghost use Rattle.mc_journal.specs.declared.record.DemuxRecord.{DemuxRecord};
-    ghost use Rattle.mc_script.specs.Plays.{Readings};
+    ghost use Rattle.mc_journal.specs.Drives.{Readings};
     ghost use Rattle.mc_lines.specs.Calls.{Ahead, AnswersOn, AtRest, Bears, Brings, Fixed, Jobs, Peeks, Reads, Seeks, Selects, Shows, Takes, at};
 
     ghost journal: { Self → List DemuxRecord };

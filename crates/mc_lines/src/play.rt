@@ -3,7 +3,7 @@ ghost use Rattle.mc_outside.specs.Shelf.{content};
 ghost use Rattle.mc_journal.specs.declared.record.DemuxRecord.{DemuxRecord};
 ghost use Rattle.mc_script.specs.declared.acts.Act.TheVariants.{DemuxGive};
 ghost use Rattle.mc_script.specs.Pairing.{IsPaired};
-ghost use Rattle.mc_script.specs.Plays.{Readings};
+ghost use Rattle.mc_journal.specs.Drives.{Readings};
 ghost use Rattle.mc_lines.specs.Lines.{Grows, IsFull, Line};
 ghost use Rattle.mc_lines.specs.Runs.{Goes, IsAwaited, IsFree, IsOut, Keeps, Runs, Took};
 

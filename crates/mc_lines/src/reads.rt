@@ -1,6 +1,8 @@
 ghost use Rattle.std.specs.Prelude.{◌≡◌, None, List, ℕ};
 ghost use Rattle.mc_script.specs.declared.acts.Act.TheVariants.{Read};
-ghost use Rattle.mc_script.specs.Plays.{Readings, reader as reader_lem, track_of as track_lem};
+ghost use Rattle.mc_journal.specs.Drives.{Readings};
+ghost use Rattle.mc_journal.specs.Callers.{reader as reader_lem};
+ghost use Rattle.mc_packet.specs.Choices.{track_of as track_lem};
 ghost use Rattle.mc_lines.specs.Lines.{IsFull, Line, Orders, ReadsOn, ReadsOne, is_packet as packet_lem};
 
 use crate::halt::{Halt, halt_of, halted};

@@ -1,7 +1,7 @@
 ghost use Rattle.std.specs.Prelude.{◌≡◌, ◌≤◌, None, Some, List, ℕ};
 ghost use Rattle.mc_outside.specs.Shelf.{content};
 ghost use Rattle.mc_script.specs.declared.acts.Act.TheVariants.{Demux};
-ghost use Rattle.mc_script.specs.Plays.{Readings};
+ghost use Rattle.mc_journal.specs.Drives.{Readings};
 ghost use Rattle.mc_lines.specs.Lines.{Grows, IsFull, Line, Turns};
 
 use crate::halt::{Halt, halt_of};

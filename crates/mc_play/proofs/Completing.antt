@@ -26,7 +26,9 @@ use Rattle.mc_script.specs.declared.exit.ShelfCause.{ShelfCause}
 use Rattle.mc_script.specs.declared.exit.ShelfCause.TheVariants as causes
 use Rattle.mc_script.specs.declared.options.RunLine.{RunLine}
 use Rattle.mc_world.specs.Filmed.{film_for}
-use Rattle.mc_script.specs.Plays.{Leaves, Played, Readings, reader, selection, still_left, taken_after, tells_reader}
+use Rattle.mc_script.specs.Plays.{Leaves, Played, taken_after}
+use Rattle.mc_journal.specs.Drives.{Readings, selection, still_left, tells_reader}
+use Rattle.mc_journal.specs.Callers.{reader}
 use Rattle.mc_play.specs.Asked.{CausedBy, ScriptIs, ScriptIsRefused, name_at}
 use Rattle.mc_play.specs.Run.{Counts, Ends, EndsLine, Stepped, is_failed, is_starved}
 use Rattle.mc_play.specs.Completing.{Completes, EndsAll, Fulfils, HasAll, IsEnded, IsQuiet, PlayedOut, ends_reader}

@@ -25,7 +25,7 @@ use Rattle.mc_demux.specs.Opening.{HasTracks, IsOpened}
 use Rattle.mc_demux.specs.State.{DemuxState}
 use Rattle.mc_demux.proofs.Laws.{stands_gapless, stands_legal, stands_used}
 use Rattle.mc_script.specs.declared.acts.Act.{Act}
-use Rattle.mc_script.specs.Plays.{Readings, readings}
+use Rattle.mc_journal.specs.Drives.{Readings, readings}
 use Rattle.mc_script.specs.declared.options.RunLine.{RunLine}
 use Rattle.mc_script.specs.RunLines.{AreLimits}
 use Rattle.mc_lines.specs.declared.halt.Halt.{Halt}

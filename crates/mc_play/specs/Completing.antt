@@ -18,7 +18,9 @@ use Rattle.mc_script.specs.declared.acts.Act.TheVariants as acts
 use Rattle.mc_script.specs.declared.exit.Exit.{Exit}
 use Rattle.mc_script.specs.declared.exit.Exit.TheVariants as exits
 use Rattle.mc_script.specs.declared.options.RunLine.{RunLine}
-use Rattle.mc_script.specs.Plays.{Leaves, Readings, reader, readings, selection, taken_after}
+use Rattle.mc_script.specs.Plays.{Leaves, taken_after}
+use Rattle.mc_journal.specs.Drives.{Readings, readings, selection}
+use Rattle.mc_journal.specs.Callers.{reader}
 use Rattle.mc_play.specs.Asked.{FileIs, ScriptIs, name_at}
 use Rattle.mc_play.specs.Run.{Counts}
 

@@ -25,7 +25,7 @@ use Rattle.mc_script.specs.declared.exit.Exit.TheVariants as exits
 use Rattle.mc_script.specs.declared.exit.ShelfCause.{ShelfCause}
 use Rattle.mc_script.specs.declared.exit.ShelfCause.TheVariants as causes
 use Rattle.mc_script.specs.declared.options.RunLine.{RunLine}
-use Rattle.mc_script.specs.Plays.{readings}
+use Rattle.mc_journal.specs.Drives.{readings}
 use Rattle.mc_script.specs.Transcript.{transcript}
 use Rattle.mc_lines.specs.declared.halt.Halt.{Halt}
 use Rattle.mc_lines.specs.declared.halt.Halt.TheVariants as halts

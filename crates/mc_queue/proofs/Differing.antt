@@ -7,7 +7,8 @@ use Rattle.mc_packet.specs.declared.packet.Packet.{Packet}
 use Rattle.mc_packet.specs.declared.packet.Pos.{Pos}
 use Rattle.mc_journal.specs.Films.{rank}
 use Rattle.mc_queue.specs.declared.differences.Difference.{Difference}
-use Rattle.mc_queue.specs.Places.{place, Rise, before, from_place, is_before, is_from}
+use Rattle.mc_queue.specs.Places.{place, Rise, before, is_before, is_from}
+use Rattle.mc_journal.specs.Views.{from_place}
 use Rattle.mc_queue.specs.Differences.{time_at, Agree, Tells, same_heads, only_ours, only_other, of_two, difference_of}
 use Rattle.mc_queue.specs.Queue.{QueueState}
 use Rattle.mc_queue.specs.Union.{Meet, Compared, shared_from, shared_to, earlier, later}

@@ -5,16 +5,18 @@ use Rattle.std.specs.List.{filter, AllByRecursion}
 use Rattle.std.proofs.lemmas.Bool.{cases_Bool, cases_lt, leb-true, leb-false, le-leb, lt-leb, lt-ltb, le-ltb, ne_eqb, true≢false}
 use Rattle.mc_packet.specs.declared.packet.Packet.{Packet}
 use Rattle.mc_packet.specs.declared.packet.Pos.{Pos}
-use Rattle.mc_journal.specs.Films.{rank}
+use Rattle.mc_journal.specs.Films.{rank, IsRising, track_of}
 use Rattle.mc_queue.specs.declared.queue.UnionError.{UnionError}
 use Rattle.mc_queue.specs.declared.queue.UnionError.TheVariants.{NoMemory, Mismatch}
-use Rattle.mc_queue.specs.Places.{Rise, place, is_before, is_from, before, from_place, within}
+use Rattle.mc_queue.specs.Places.{Rise, place, is_before, is_from, before}
+use Rattle.mc_journal.specs.Views.{from_place}
+use Rattle.mc_journal.specs.Ranges.{within}
 use Rattle.mc_queue.specs.Queue.{QueueState, DropsTo}
 use Rattle.mc_queue.specs.Differences.{time_at}
 use Rattle.mc_queue.specs.Union.{Meet, earlier, later, shared_from, shared_to, united, UnionGives}
 use Rattle.mc_queue.proofs.Rising.{rise_bounds}
 use Rattle.mc_queue.proofs.Uniting.{earlier_least, later_greatest}
-use Rattle.mc_queue.specs.Films.{PlacesRise, of_track, Holds, UnitesFilm, KeepsFilm}
+use Rattle.mc_queue.specs.Films.{Holds, UnitesFilm, KeepsFilm}
 
 -- ---- parts of a list
 
@@ -92,7 +94,7 @@ from_within from to cut (p ∷ ps) l =
     ]
 
 -- a part from place to place is two parts behind one another
-pub two_parts : (from mid to : ℕ) (ps : List Packet) → from ≤ mid → mid ≤ to → PlacesRise ps → within from to ps ≡ within from mid ps ++ within mid to ps
+pub two_parts : (from mid to : ℕ) (ps : List Packet) → from ≤ mid → mid ≤ to → IsRising ps → within from to ps ≡ within from mid ps ++ within mid to ps
 two_parts from mid to [] l m r = refl
 two_parts from mid to (p ∷ ps) l m r =
     let more = two_parts from mid to ps l m r.1 in
@@ -128,7 +130,7 @@ all_kept : (P : Packet → Bool) (at : ℕ) (ps : List Packet) → AllByRecursio
 all_kept P at [] h = h
 all_kept P at (p ∷ ps) h = elim (cases_Bool (P p)) [ inl y ↦ rw y (h.0, all_kept P at ps h.1) | inr n ↦ rw n (all_kept P at ps h.1) ]
 
-still_rise : (P : Packet → Bool) (ps : List Packet) → PlacesRise ps → PlacesRise (filter P ps)
+still_rise : (P : Packet → Bool) (ps : List Packet) → IsRising ps → IsRising (filter P ps)
 still_rise P [] r = r
 still_rise P (p ∷ ps) r = elim (cases_Bool (P p)) [ inl y ↦ rw y (all_kept P (place p) ps r.0, still_rise P ps r.1) | inr n ↦ rw n (still_rise P ps r.1) ]
 
@@ -161,7 +163,7 @@ rear_part a b ps = elim (cases_Bool (nat_le (rank a) (rank b))) [
       rw n (none_within (rank a) (rank b) ps (omega arith) ∙ sym (none_within (rank a) (rank a) ps (omega arith)))
 ]
 
-united_part : (f t g u : Pos) (ps : List Packet) → PlacesRise ps → rank f ≤ rank t → rank f ≤ rank u → rank g ≤ rank t
+united_part : (f t g u : Pos) (ps : List Packet) → IsRising ps → rank f ≤ rank t → rank f ≤ rank u → rank g ≤ rank t
     → before (rank f) (within (rank g) (rank u) ps) ++ (within (rank f) (rank t) ps ++ from_place (rank t) (within (rank g) (rank u) ps)) ≡ within (rank (earlier f g)) (rank (later t u)) ps
 united_part f t g u ps r l m n =
     let lo = rank (earlier f g) in
@@ -188,15 +190,15 @@ film_agrees q o film t h k x l m =
     let a1 = a.1 in
     let b0 = b.0 in
     let b1 = b.1 in
-    ap (λ ps. time_at x ps) h ∙ seen_within (rank q.from) (rank q.to) x (of_track q.track film) (omega arith) (omega arith)
-    ∙ ap (λ n. time_at x (of_track n film)) (sym t)
-    ∙ sym (ap (λ ps. time_at x ps) k ∙ seen_within (rank o.from) (rank o.to) x (of_track o.track film) (omega arith) (omega arith))
+    ap (λ ps. time_at x ps) h ∙ seen_within (rank q.from) (rank q.to) x (track_of q.track film) (omega arith) (omega arith)
+    ∙ ap (λ n. time_at x (track_of n film)) (sym t)
+    ∙ sym (ap (λ ps. time_at x ps) k ∙ seen_within (rank o.from) (rank o.to) x (track_of o.track film) (omega arith) (omega arith))
 
-holds_both : (q o : QueueState) (film : List Packet) → PlacesRise film → rank q.from ≤ rank q.to → Meet q o → Holds film q → Holds film o
-    → united q o ≡ within (rank (earlier q.from o.from)) (rank (later q.to o.to)) (of_track q.track film)
+holds_both : (q o : QueueState) (film : List Packet) → IsRising film → rank q.from ≤ rank q.to → Meet q o → Holds film q → Holds film o
+    → united q o ≡ within (rank (earlier q.from o.from)) (rank (later q.to o.to)) (track_of q.track film)
 holds_both q o film r l m h k =
-    let T = of_track q.track film in
-    let k' : o.packets ≡ within (rank o.from) (rank o.to) T = k ∙ ap (λ n. within (rank o.from) (rank o.to) (of_track n film)) m.one_track in
+    let T = track_of q.track film in
+    let k' : o.packets ≡ within (rank o.from) (rank o.to) T = k ∙ ap (λ n. within (rank o.from) (rank o.to) (track_of n film)) m.one_track in
     ap (λ ps. before (rank q.from) ps ++ (q.packets ++ from_place (rank q.to) ps)) k'
     ∙ ap (λ ps. before (rank q.from) (within (rank o.from) (rank o.to) T) ++ (ps ++ from_place (rank q.to) (within (rank o.from) (rank o.to) T))) h
     ∙ united_part q.from q.to o.from o.to T (still_rise (λ (p : Packet). p.track == q.track) film r) l m.ours m.other
@@ -213,11 +215,11 @@ unites_film q o q' o' (Err (Mismatch at ours other)) m l g = λ film r h k.
 -- ---- one queue of a film
 
 pub appends_film : (q q' : QueueState) → q ≡ q' → (upto : Pos) (ps new : List Packet) → new ≡ q.packets ++ ps → Rise q.track (rank q.from) (rank q.to) q.packets → Rise q'.track (rank q'.to) (rank upto) ps
-    → (film : List Packet) → PlacesRise film → Holds film q' → ps ≡ within (rank q'.to) (rank upto) (of_track q'.track film) → new ≡ within (rank q.from) (rank upto) (of_track q.track film)
+    → (film : List Packet) → IsRising film → Holds film q' → ps ≡ within (rank q'.to) (rank upto) (track_of q'.track film) → new ≡ within (rank q.from) (rank upto) (track_of q.track film)
 appends_film q q' e upto ps new n a b film r h k =
-    let T = of_track q.track film in
+    let T = track_of q.track film in
     let h' = subst (λ (s : QueueState). Holds film s) (sym e) h in
-    let k' : ps ≡ within (rank q.to) (rank upto) T = subst (λ (s : QueueState). ps ≡ within (rank s.to) (rank upto) (of_track s.track film)) (sym e) k in
+    let k' : ps ≡ within (rank q.to) (rank upto) T = subst (λ (s : QueueState). ps ≡ within (rank s.to) (rank upto) (track_of s.track film)) (sym e) k in
     let b' = subst (λ (s : QueueState). Rise s.track (rank s.to) (rank upto) ps) (sym e) b in
     let l = rise_bounds q.track (rank q.from) (rank q.to) q.packets a in
     let m = rise_bounds q.track (rank q.to) (rank upto) ps b' in
@@ -226,7 +228,7 @@ appends_film q q' e upto ps new n a b film r h k =
 
 pub keeps_film : (cut : Pos) (q new : QueueState) → DropsTo cut q new → rank q.from ≤ rank cut → KeepsFilm q new
 keeps_film cut q new d l = λ film h.
-    let T = of_track q.track film in
+    let T = track_of q.track film in
     let e : from_place (rank cut) q.packets ≡ within (rank cut) (rank q.to) T =
     ap (λ qs. from_place (rank cut) qs) h ∙ from_within (rank q.from) (rank q.to) (rank cut) T l in
     subst (λ (s : QueueState). Holds film s) (sym d.packets_left) e

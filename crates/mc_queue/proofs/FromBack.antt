@@ -6,7 +6,7 @@ use Rattle.std.specs.Option.{option_map}
 use Rattle.std.proofs.lemmas.Bool.{cases_Bool}
 use Rattle.std.proofs.lemmas.List.{reverse-append}
 use Rattle.mc_packet.specs.declared.packet.Packet.{Packet}
-use Rattle.mc_journal.specs.Choices.{or_else}
+use Rattle.mc_packet.specs.Choices.{or_else}
 use Rattle.mc_queue.specs.Queue.{find_last, last_that}
 
 find_append : (test : Packet → Bool) (ps qs : List Packet) → find test (ps ++ qs) ≡ or_else (find test ps) (find test qs)

@@ -7,7 +7,7 @@ use Rattle.std.proofs.lemmas.Bool.{cases_Bool}
 use Rattle.std.proofs.lemmas.List.{drop_more, take-append-drop}
 use Rattle.mc_packet.specs.declared.packet.Packet.{Packet}
 use Rattle.mc_packet.specs.declared.packet.Pos.{Pos}
-use Rattle.mc_journal.specs.Choices.{or_else}
+use Rattle.mc_packet.specs.Choices.{or_else}
 use Rattle.mc_queue.specs.Queue.{find_last, last_that}
 use Rattle.mc_queue.proofs.FromBack.{last_of_two}
 use Rattle.mc_queue.specs.Blocks.{flat}

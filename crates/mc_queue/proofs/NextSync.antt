@@ -4,7 +4,7 @@ use Rattle.std.proofs.lemmas.Bool.{cases_Bool, ltb-true}
 use Rattle.mc_packet.specs.declared.packet.Packet.{Packet}
 use Rattle.mc_packet.specs.declared.packet.Pos.{Pos}
 use Rattle.mc_journal.specs.Films.{rank}
-use Rattle.mc_journal.specs.Choices.{or_else}
+use Rattle.mc_packet.specs.Choices.{or_else}
 use Rattle.mc_queue.specs.Places.{Rise, behind, is_before, place}
 use Rattle.mc_queue.specs.Queue.{first_of, first_that, is_sync}
 use Rattle.mc_queue.specs.Blocks.{AreBlocks, BlocksState, Follows, Shape, block_at, flat, is_in_front, next_with}

@@ -1,7 +1,6 @@
 -- Where blocks begin, and what they weigh.
 use Rattle.std.proofs.Common.{◌≡◌, ℕ, false, zero, suc, ◌+◌, ◌-◌, ◌*◌, ◌<◌, ◌≤◌, List, [], ◌∷◌, ◌++◌, length, take, drop, get_or, arith, refl, ap, subst, sym, ◌∙◌}
-use Rattle.std.proofs.lemmas.List.{drop-drop, drop_more, take_more, take-append-drop, get_or-take, get_or-drop, length-append, length-take, length-drop}
-use Rattle.std.proofs.lemmas.List.Sums.{sum_by-cons}
+use Rattle.std.proofs.lemmas.List.{drop-drop, take_more, take-append-drop, get_or-take, get_or-drop, length-append, length-take, length-drop}
 use Rattle.mc_packet.specs.declared.packet.Packet.{Packet}
 use Rattle.mc_queue.specs.Places.{weights, weight_of}
 use Rattle.mc_queue.specs.declared.kept.Kept.{Kept}
@@ -178,14 +177,6 @@ stride_is i at k ks ps s l e f =
     let u = weights_of_two (take k.count (drop at ps)) (drop k.count (drop at ps)) in
     let v : weights (drop k.count (drop at ps)) ≡ weights (drop (at + k.count) ps) = ap (λ qs. weights qs) (drop-drop k.count at ps) in
     (omega arith, omega arith)
-
--- or they are one and those behind it
-pub one_weight : (ps : List Packet) (at : ℕ) (x : Packet) → at < length ps → x ≡ get_or ps at x → weight_of x + weights (drop (at + 1) ps) ≡ weights (drop at ps)
-one_weight ps at x l e =
-    let t : weights (drop at ps) ≡ weights (get_or ps at x ∷ drop (at + 1) ps) = ap (λ qs. weights qs) (drop_more ps at x l) in
-    let w : weight_of x ≡ weight_of (get_or ps at x) = ap (λ (p : Packet). weight_of p) e in
-    let u = sum_by-cons weight_of (get_or ps at x) (drop (at + 1) ps) in
-    omega arith
 
 pub in_kept : (i n : ℕ) (ks : List Kept) (ps : List Packet) → Stands ks ps → n ≡ length (parts ks ps) → i < n → i < length ks
 in_kept i n ks ps s e l = let m = many ks ps s in omega arith

@@ -8,7 +8,8 @@ use Rattle.mc_packet.specs.declared.packet.Packet.{Packet}
 use Rattle.mc_packet.specs.declared.packet.Pos.{Pos}
 use Rattle.mc_journal.specs.Films.{rank}
 use Rattle.mc_queue.specs.Union.{later}
-use Rattle.mc_queue.specs.Places.{place, weight_of, weights, is_before, is_from, from_place}
+use Rattle.mc_queue.specs.Places.{place, weight_of, weights, is_before, is_from}
+use Rattle.mc_journal.specs.Views.{from_place}
 use Rattle.mc_queue.proofs.Rising.{weights_of_two, from_two}
 
 -- where those before an index stand before the place, and the others do not, these are those from the place on

@@ -7,7 +7,8 @@ use Rattle.std.proofs.lemmas.List.Filters.{sum_by-filter_both, length-filter_bot
 use Rattle.mc_packet.specs.declared.packet.Packet.{Packet}
 use Rattle.mc_packet.specs.declared.packet.Pos.{Pos}
 use Rattle.mc_journal.specs.Films.{rank}
-use Rattle.mc_queue.specs.Places.{place, weight_of, weights, Rise, is_before, is_from, before, from_place, behind}
+use Rattle.mc_queue.specs.Places.{place, weight_of, weights, Rise, is_before, is_from, before, behind}
+use Rattle.mc_journal.specs.Views.{from_place}
 
 pub rank_is : (p : Pos) → rank p ≡ p.block * 65536 + p.lane
 unfolding rank

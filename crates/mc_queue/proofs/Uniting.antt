@@ -5,7 +5,8 @@ use Rattle.std.proofs.lemmas.Bool.{cases_Bool, leb-true, leb-false}
 use Rattle.mc_packet.specs.declared.packet.Packet.{Packet}
 use Rattle.mc_packet.specs.declared.packet.Pos.{Pos}
 use Rattle.mc_journal.specs.Films.{rank}
-use Rattle.mc_queue.specs.Places.{weights, Rise, before, from_place}
+use Rattle.mc_queue.specs.Places.{weights, Rise, before}
+use Rattle.mc_journal.specs.Views.{from_place}
 use Rattle.mc_queue.specs.Queue.{QueueState}
 use Rattle.mc_queue.specs.Union.{Meet, earlier, later, in_front, behind_all, united}
 use Rattle.mc_queue.proofs.Rising.{rise_earlier, rise_later, rise_bounds, rise_append, rise_from, rise_before, take_before, drop_before_is, weights_of_two, less_weight_outside}

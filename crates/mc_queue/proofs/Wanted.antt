@@ -10,7 +10,7 @@ use Rattle.mc_packet.specs.declared.packet.Packet.{Packet}
 use Rattle.mc_packet.specs.declared.packet.Pos.{Pos}
 use Rattle.mc_packet.specs.declared.choice.Dir.{Dir}
 use Rattle.mc_packet.specs.declared.choice.Dir.TheVariants.{Back, Forward}
-use Rattle.mc_journal.specs.Choices.{or_else}
+use Rattle.mc_packet.specs.Choices.{or_else}
 use Rattle.mc_queue.specs.Queue.{last_that, first_that, is_sync}
 use Rattle.mc_queue.specs.Times.{comes_first}
 use Rattle.mc_queue.specs.declared.wants.Want.{Want}

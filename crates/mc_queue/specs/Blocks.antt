@@ -7,7 +7,8 @@ use Rattle.mc_packet.specs.declared.packet.Pos.{Pos}
 use Rattle.mc_packet.specs.declared.choice.Dir.{Dir}
 use Rattle.mc_packet.specs.declared.choice.Dir.TheVariants.{Back, Forward}
 use Rattle.mc_journal.specs.Films.{rank}
-use Rattle.mc_queue.specs.Places.{Rise, from_place, is_before, weights, weight_of}
+use Rattle.mc_queue.specs.Places.{Rise, is_before, weights, weight_of}
+use Rattle.mc_journal.specs.Views.{from_place}
 use Rattle.mc_queue.specs.Queue.{QueueState, first_of, first_that, is_sync}
 use Rattle.mc_queue.specs.Times.{comes_first}
 use Rattle.mc_queue.specs.declared.kept.Summary.{Summary}

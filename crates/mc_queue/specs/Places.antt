@@ -1,8 +1,9 @@
 -- Packets of one track in rising order, and those of them before a place, at or behind it, or between two.
-use Rattle.std.specs.Prelude.{◌≡◌, ℕ, ◌+◌, true, false, ◌≤◌, ◌<◌, nat_le, nat_lt, Bool, ◌&&◌, if◌then◌else◌, Option, Some, None, List, [], ◌∷◌, length, filter, sum_by}
+use Rattle.std.specs.Prelude.{◌≡◌, ℕ, ◌+◌, true, false, ◌≤◌, ◌<◌, nat_le, nat_lt, Bool, if◌then◌else◌, Option, Some, None, List, [], ◌∷◌, length, filter, sum_by}
 use Rattle.std.specs.List.{AllWithin}
 use Rattle.mc_packet.specs.declared.packet.Packet.{Packet}
 use Rattle.mc_journal.specs.Films.{rank}
+use Rattle.mc_journal.specs.Views.{from_place}
 
 -- a packet's place as a number: places rise by block, and then by frame
 abbrev pub place : Packet → ℕ
@@ -21,7 +22,7 @@ abbrev pub Rise : ℕ → ℕ → ℕ → List Packet → Type 0
 Rise track from to [] = from ≤ to
 Rise track from to (p ∷ ps) = (p.track ≡ track) × (from ≤ place p) × Rise track (place p + 1) to ps
 
--- a packet stands before a place; at it or behind it; from one place up to, but without, another
+-- a packet stands before a place; at it or behind it
 abbrev pub is_before : ℕ → Packet → Bool
 is_before cut p = nat_lt (place p) cut
 
@@ -30,12 +31,6 @@ is_from cut p = nat_le cut (place p)
 
 abbrev pub before : ℕ → List Packet → List Packet
 before cut ps = filter (is_before cut) ps
-
-abbrev pub from_place : ℕ → List Packet → List Packet
-from_place cut ps = filter (is_from cut) ps
-
-abbrev pub within : ℕ → ℕ → List Packet → List Packet
-within from to ps = filter (λ p. is_from from p && is_before to p) ps
 
 -- how many packets stand before one place, or at another or behind it, and what these weigh
 abbrev pub outside : ℕ → ℕ → List Packet → ℕ

@@ -4,9 +4,10 @@ use Rattle.std.specs.List.{find}
 use Rattle.std.specs.Option.{option_map}
 use Rattle.mc_packet.specs.declared.packet.Packet.{Packet}
 use Rattle.mc_packet.specs.declared.packet.Pos.{Pos}
-use Rattle.mc_journal.specs.Choices.{or_else}
+use Rattle.mc_packet.specs.Choices.{or_else}
 use Rattle.mc_journal.specs.Films.{rank}
-use Rattle.mc_queue.specs.Places.{Rise, from_place, weights}
+use Rattle.mc_queue.specs.Places.{Rise, weights}
+use Rattle.mc_journal.specs.Views.{from_place}
 
 -- its track; the interval of places of which it holds all packets; these packets, in order; and how many more it has room for
 pub record QueueState : Type 0 where

@@ -6,7 +6,8 @@ use Rattle.mc_journal.specs.Films.{rank}
 use Rattle.mc_queue.specs.declared.queue.UnionError.{UnionError}
 use Rattle.mc_queue.specs.declared.queue.UnionError.TheVariants.{NoMemory, Mismatch}
 use Rattle.mc_queue.specs.declared.differences.Difference.{Difference}
-use Rattle.mc_queue.specs.Places.{before, from_place}
+use Rattle.mc_queue.specs.Places.{before}
+use Rattle.mc_journal.specs.Views.{from_place}
 use Rattle.mc_queue.specs.Queue.{QueueState, with_packets}
 use Rattle.mc_queue.specs.Differences.{Agree, Differ, Tells}
 

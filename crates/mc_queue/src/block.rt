@@ -30,7 +30,9 @@ impl<'a> Model for Block<'a> {
 
     ghost view = { λ b. take b.kept.now.count (drop b.start b.packets.now.items) };
 
-    ghost invariant = { λ b. IsOf b.kept.now (take b.kept.now.count (drop b.start b.packets.now.items)) × (b.kept.now.count ≤ 256) };
+    ghost invariant = { λ b. IsOf b.kept.now
+        (take b.kept.now.count (drop b.start b.packets.now.items))
+        × (b.kept.now.count ≤ 256) };
 }
 
 impl<'a> Block<'a> {

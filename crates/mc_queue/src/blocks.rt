@@ -43,9 +43,14 @@ impl Model for Blocks {
 
     ghost Value = { BlocksState };
 
-    ghost view = { λ b. record { packets = b.packets.items; blocks = parts b.kept.items b.packets.items; spare = b.room - deque_len b.packets } };
+    ghost view = { λ b. record {
+      packets = b.packets.items;
+      blocks = parts b.kept.items b.packets.items;
+      spare = b.room - deque_len b.packets;
+    } };
 
-    ghost invariant = { λ b. Stands b.kept.items b.packets.items × HasRoom b.room (deque_len b.packets) (deque_capacity b.packets) (deque_capacity b.kept) };
+    ghost invariant = { λ b. Stands b.kept.items b.packets.items
+        × HasRoom b.room (deque_len b.packets) (deque_capacity b.packets) (deque_capacity b.kept) };
 }
 
 /// Lets the last block take a packet that was put behind the others, or begins a block with it.

@@ -1,7 +1,8 @@
 ghost use Rattle.std.specs.Prelude.{◌≡◌, ◌+◌, ◌≤◌, length, drop};
 ghost use Rattle.std.specs.Option.{option_copied};
 ghost use Rattle.mc_journal.specs.Films.{rank};
-ghost use Rattle.mc_queue.specs.Places.{before, from_place};
+ghost use Rattle.mc_queue.specs.Places.{before};
+ghost use Rattle.mc_journal.specs.Views.{from_place};
 ghost use Rattle.mc_queue.specs.Differences.{are_same, differ_from, head_by, head_upto, of_two, only_other, only_ours, told_of};
 
 use crate::merging::count_before;

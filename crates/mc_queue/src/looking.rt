@@ -1,7 +1,8 @@
 ghost use Rattle.std.specs.Prelude.{◌≡◌, ◌+◌, ◌-◌, ◌<◌, ◌≤◌, ◌^◌, nat_le, if◌then◌else◌, drop, length};
 ghost use Rattle.std.specs.List.Sorted.{IsPartitionedBy};
 ghost use Rattle.mc_journal.specs.Films.{rank};
-ghost use Rattle.mc_queue.specs.Places.{from_place, is_before, weights};
+ghost use Rattle.mc_journal.specs.Views.{from_place};
+ghost use Rattle.mc_queue.specs.Places.{is_before, weights};
 
 use crate::blocks::Blocks;
 use crate::lookups::index_at;

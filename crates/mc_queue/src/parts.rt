@@ -1,7 +1,8 @@
 ghost use Rattle.std.specs.Prelude.{◌≡◌, ◌+◌, ◌<◌, ◌≤◌, ◌^◌, ◌++◌, drop, length, take};
 ghost use Rattle.std.specs.VecDeque.{deque_capacity, deque_len};
 ghost use Rattle.mc_journal.specs.Films.{rank};
-ghost use Rattle.mc_queue.specs.Places.{from_place, weights};
+ghost use Rattle.mc_journal.specs.Views.{from_place};
+ghost use Rattle.mc_queue.specs.Places.{weights};
 
 use crate::place::{is_before, weight_of};
 use mc_packet::{Packet, Packets, Pos};

@@ -7,7 +7,8 @@ ghost use Rattle.mc_packet.specs.declared.choice.Dir.TheVariants.{Back, Forward}
 ghost use Rattle.mc_queue.specs.Times.{IsNearest, is_wanted};
 ghost use Rattle.mc_queue.specs.Films.{AppendsFilm, KeepsFilm, UnitesFilm};
 ghost use Rattle.mc_queue.specs.Union.{Compared, Meet, UnionGives, Unites, added};
-ghost use Rattle.mc_queue.specs.Places.{before, Rise, is_from, from_place, weights};
+ghost use Rattle.mc_queue.specs.Places.{before, Rise, is_from, weights};
+ghost use Rattle.mc_journal.specs.Views.{from_place};
 ghost use Rattle.mc_queue.specs.Queue.{Appends, DropsTo, IsNew, IsQueue, with_spare, first_of, first_that, last_that, next_cut, is_sync, is_sync_before, is_sync_from, is_sync_upto};
 ghost use Rattle.mc_queue.specs.Blocks.{bound};
 
@@ -73,7 +74,8 @@ impl Model for Queue {
 
     ghost view = { λ q. seen q.track q.from q.to q.held };
 
-    ghost invariant = { λ q. AreFields q.track q.from q.to q.weight q.look q.ahead q.next q.held.packets };
+    ghost invariant = { λ q. AreFields q.track q.from q.to q.weight
+        q.look q.ahead q.next q.held.packets };
 }
 
 impl Queue {

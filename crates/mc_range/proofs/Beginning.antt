@@ -3,7 +3,7 @@ use Rattle.std.proofs.Common.{◌≡◌, ℕ, true, Option, Some, None, arith, r
 use Rattle.mc_packet.specs.declared.choice.Choice.{Choice}
 use Rattle.mc_packet.specs.declared.choice.Starts.{Starts}
 use Rattle.mc_packet.specs.declared.walk.Mark.{Mark}
-use Rattle.mc_journal.specs.Choices.{is_distinct}
+use Rattle.mc_packet.specs.Choices.{is_distinct}
 use Rattle.mc_queue.specs.Places.{weights}
 use Rattle.mc_queue.specs.Queue.{QueueState, IsQueue, IsNew}
 use Rattle.mc_range.specs.declared.queues.Queues.{Queues}

@@ -7,7 +7,7 @@ use Rattle.mc_packet.specs.declared.choice.Choice.{Choice}
 use Rattle.mc_packet.specs.declared.choice.Starts.{Starts}
 use Rattle.mc_packet.specs.declared.walk.Mark.{Mark}
 use Rattle.mc_journal.specs.Told.{Told, told}
-use Rattle.mc_journal.specs.Choices.{or_else, is_track, is_other, is_distinct}
+use Rattle.mc_packet.specs.Choices.{or_else, is_track, is_other, is_distinct}
 use Rattle.mc_journal.specs.Films.{rank, first_lane, track_of}
 use Rattle.mc_journal.specs.Ranges.{Span, in_span}
 use Rattle.mc_journal.specs.Stands.{empty_span, span_given, new_range}

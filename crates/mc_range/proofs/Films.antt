@@ -9,7 +9,7 @@ use Rattle.mc_packet.specs.declared.cache.Heads.{Heads}
 use Rattle.mc_packet.specs.declared.choice.Choice.{Choice}
 use Rattle.mc_packet.specs.declared.choice.Dir.{Dir}
 use Rattle.mc_journal.specs.Told.{Told, told}
-use Rattle.mc_journal.specs.Choices.{passes, is_track, is_other, is_distinct}
+use Rattle.mc_packet.specs.Choices.{passes, is_track, is_other, is_distinct}
 use Rattle.mc_journal.specs.Films.{at, rank, first_lane, block_of, time_or, track_of, syncs, track_sync, video_sync, audio_sync, audio_dir, least_of, sync_for, start_by, start_with}
 use Rattle.mc_journal.specs.Ranges.{Span, in_span, held_syncs, on_span, served, serves, served_head}
 use Rattle.mc_queue.specs.Queue.{is_sync}

@@ -9,7 +9,7 @@ use Rattle.mc_packet.specs.declared.packet.Pos.{Pos}
 use Rattle.mc_packet.specs.declared.choice.Dir.{Dir}
 use Rattle.mc_packet.specs.declared.choice.Dir.TheVariants.{Back, Forward}
 use Rattle.mc_journal.specs.Told.{told}
-use Rattle.mc_journal.specs.Choices.{or_else}
+use Rattle.mc_packet.specs.Choices.{or_else}
 use Rattle.mc_journal.specs.Films.{rank, first, last, last_upto, first_from, sync_for}
 use Rattle.mc_journal.specs.Ranges.{any_from, any_below}
 use Rattle.mc_queue.specs.Places.{place, Rise, is_from}

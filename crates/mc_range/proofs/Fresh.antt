@@ -5,7 +5,8 @@ use Rattle.std.proofs.lemmas.Bool.{eq-eqb}
 use Rattle.mc_packet.specs.declared.packet.Packet.{Packet}
 use Rattle.mc_packet.specs.declared.packet.Pos.{Pos}
 use Rattle.mc_journal.specs.Films.{rank}
-use Rattle.mc_queue.specs.Places.{place, weights, Rise, behind, from_place}
+use Rattle.mc_queue.specs.Places.{place, weights, Rise, behind}
+use Rattle.mc_journal.specs.Views.{from_place}
 use Rattle.mc_queue.specs.Queue.{QueueState}
 use Rattle.mc_queue.specs.Union.{later}
 use Rattle.mc_queue.proofs.Rising.{rise_later, rise_from, behind_is, less_weight_from}

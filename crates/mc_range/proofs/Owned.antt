@@ -5,7 +5,7 @@ use Rattle.std.proofs.lemmas.Bool.{cases_Bool, eqb-true}
 use Rattle.mc_packet.specs.declared.packet.Packet.{Packet}
 use Rattle.mc_packet.specs.declared.packet.Pos.{Pos}
 use Rattle.mc_packet.specs.declared.walk.Mark.{Mark}
-use Rattle.mc_journal.specs.Choices.{or_else}
+use Rattle.mc_packet.specs.Choices.{or_else}
 use Rattle.mc_journal.specs.Films.{rank, first_lane}
 use Rattle.mc_queue.specs.Queue.{QueueState, IsQueue}
 use Rattle.mc_range.specs.declared.queues.Queues.{Queues}

@@ -8,7 +8,7 @@ use Rattle.mc_packet.specs.declared.walk.Ending.{Ending}
 use Rattle.mc_packet.specs.declared.walk.Mark.{Mark}
 use Rattle.mc_packet.specs.declared.choice.Choice.{Choice}
 use Rattle.mc_packet.specs.declared.choice.Kind.TheVariants.{Video, Audio, Sub}
-use Rattle.mc_journal.specs.Choices.{or_else, is_other}
+use Rattle.mc_packet.specs.Choices.{or_else, is_other}
 use Rattle.mc_journal.specs.Films.{rank}
 use Rattle.mc_queue.specs.Places.{place, Rise}
 use Rattle.mc_queue.specs.Queue.{QueueState}

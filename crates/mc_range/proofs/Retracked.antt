@@ -8,7 +8,7 @@ use Rattle.mc_packet.specs.declared.choice.Kind.{Kind}
 use Rattle.mc_packet.specs.declared.choice.Kind.TheVariants.{Video, Audio, Sub}
 use Rattle.mc_packet.specs.declared.walk.Mark.{Mark}
 use Rattle.mc_journal.specs.Told.{Told, told}
-use Rattle.mc_journal.specs.Choices.{or_else, is_track, is_other, is_distinct, has}
+use Rattle.mc_packet.specs.Choices.{or_else, is_track, is_other, is_distinct, has}
 use Rattle.mc_journal.specs.Films.{first_lane, track_of}
 use Rattle.mc_journal.specs.Ranges.{Span, in_span}
 use Rattle.mc_journal.specs.Stands.{empty_span, keep_tracks, span_given, add_spans}

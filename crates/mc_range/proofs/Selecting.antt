@@ -9,7 +9,7 @@ use Rattle.mc_packet.specs.declared.choice.Kind.{Kind}
 use Rattle.mc_packet.specs.declared.choice.Kind.TheVariants.{Video, Audio, Sub}
 use Rattle.mc_packet.specs.declared.walk.Ending.{Ending}
 use Rattle.mc_packet.specs.declared.walk.Mark.{Mark}
-use Rattle.mc_journal.specs.Choices.{is_track, is_distinct}
+use Rattle.mc_packet.specs.Choices.{is_track, is_distinct}
 use Rattle.mc_queue.specs.Places.{weight_of, weights}
 use Rattle.mc_queue.specs.Queue.{QueueState, IsQueue, IsNew}
 use Rattle.mc_range.specs.declared.queues.Queues.{Queues}

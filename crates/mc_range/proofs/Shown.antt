@@ -4,7 +4,7 @@ use Rattle.std.specs.Prelude.{if◌then◌else◌, int_le, is_some}
 use Rattle.std.proofs.lemmas.Bool.{cases_Bool}
 use Rattle.mc_packet.specs.declared.choice.Dir.TheVariants.{Back, Forward}
 use Rattle.mc_journal.specs.Told.{Told}
-use Rattle.mc_journal.specs.Choices.{or_else}
+use Rattle.mc_packet.specs.Choices.{or_else}
 use Rattle.mc_journal.specs.Films.{first, last, last_upto, first_from, sync_for}
 use Rattle.mc_journal.specs.Ranges.{any_below, any_from, is_upto, served}
 use Rattle.mc_range.specs.Serving.{back_by, forward_by}

@@ -9,7 +9,8 @@ use Rattle.mc_packet.specs.declared.cache.Heads.{Heads}
 use Rattle.mc_packet.specs.declared.choice.Kind.{Kind}
 use Rattle.mc_packet.specs.declared.choice.Kind.TheVariants.{Video, Audio, Sub}
 use Rattle.mc_journal.specs.Films.{rank}
-use Rattle.mc_queue.specs.Places.{place, weight_of, weights, from_place}
+use Rattle.mc_queue.specs.Places.{place, weight_of, weights}
+use Rattle.mc_journal.specs.Views.{from_place}
 use Rattle.mc_queue.specs.Queue.{QueueState, IsQueue, first_of, next_cut}
 use Rattle.mc_queue.proofs.Rising.{less_weight_from}
 use Rattle.mc_queue.proofs.Rests.{from_again}

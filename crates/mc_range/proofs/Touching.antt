@@ -1,7 +1,7 @@
 -- Two ranges touch where the intervals of their queues do.
 use Rattle.std.proofs.Common.{◌≡◌, ℕ, Bool, true, false, ◌&&◌, Option, Some, None, refl, ap, ◌∙◌}
 use Rattle.std.proofs.lemmas.Bool.{and_parts}
-use Rattle.mc_journal.specs.Choices.{passes}
+use Rattle.mc_packet.specs.Choices.{passes}
 use Rattle.mc_journal.specs.Ranges.{touches}
 use Rattle.mc_queue.specs.Queue.{QueueState}
 use Rattle.mc_range.specs.Range.{RangeState, IsRange, queue_of, as_range, is_same, is_same_set, meets_range}

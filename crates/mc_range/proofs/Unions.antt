@@ -5,7 +5,7 @@ use Rattle.std.specs.Option.{option_map}
 use Rattle.std.proofs.lemmas.Bool.{cases_Bool, eq-eqb, eqb-true, eqb-false, ne_eqb, not-true, leb-true, and_parts}
 use Rattle.mc_packet.specs.declared.walk.Ending.{Ending}
 use Rattle.mc_packet.specs.declared.walk.Mark.{Mark}
-use Rattle.mc_journal.specs.Choices.{or_else, passes, is_other}
+use Rattle.mc_packet.specs.Choices.{or_else, passes, is_other}
 use Rattle.mc_journal.specs.Films.{rank, first_lane}
 use Rattle.mc_journal.specs.Ranges.{on_span}
 use Rattle.mc_queue.specs.Queue.{QueueState}

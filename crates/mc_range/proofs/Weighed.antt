@@ -8,7 +8,8 @@ use Rattle.mc_packet.specs.declared.packet.Pos.{Pos}
 use Rattle.mc_packet.specs.declared.cache.Heads.{Heads}
 use Rattle.mc_packet.specs.declared.choice.Dir.TheVariants.{Back}
 use Rattle.mc_journal.specs.Told.{Told, told}
-use Rattle.mc_journal.specs.Choices.{of_track, lead_of}
+use Rattle.mc_packet.specs.Choices.{lead_of}
+use Rattle.mc_journal.specs.Choices.{of_track}
 use Rattle.mc_journal.specs.Films.{at, rank}
 use Rattle.mc_journal.specs.Ranges.{held, held_syncs, serves, bounds, bounds_by, syncs_of_lead, held_by_lead}
 use Rattle.mc_journal.specs.Views.{weight, range_weight, forward_in, from_place, pos_of, span_shown, spans_shown}

@@ -5,7 +5,7 @@ use Rattle.mc_packet.specs.declared.packet.Packet.{Packet}
 use Rattle.mc_packet.specs.declared.choice.Choice.{Choice}
 use Rattle.mc_packet.specs.declared.choice.Dir.TheVariants.{Back}
 use Rattle.mc_journal.specs.Told.{Told, told}
-use Rattle.mc_journal.specs.Choices.{lead_of}
+use Rattle.mc_packet.specs.Choices.{lead_of}
 use Rattle.mc_journal.specs.Ranges.{bounds_by}
 use Rattle.mc_queue.specs.Queue.{QueueState}
 use Rattle.mc_queue.specs.Times.{is_wanted}

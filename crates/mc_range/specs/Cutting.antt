@@ -6,7 +6,8 @@ use Rattle.mc_packet.specs.declared.cache.Heads.{Heads}
 use Rattle.mc_packet.specs.declared.choice.Kind.{Kind}
 use Rattle.mc_packet.specs.declared.choice.Kind.TheVariants.{Video, Audio, Sub}
 use Rattle.mc_journal.specs.Films.{rank}
-use Rattle.mc_queue.specs.Places.{place, from_place, weights}
+use Rattle.mc_queue.specs.Places.{place, weights}
+use Rattle.mc_journal.specs.Views.{from_place}
 use Rattle.mc_queue.specs.Queue.{QueueState, DropsTo, first_of, next_cut}
 use Rattle.mc_queue.specs.Union.{earlier}
 use Rattle.mc_range.specs.declared.queues.Queues.{Queues}

@@ -11,7 +11,7 @@ use Rattle.mc_packet.specs.declared.choice.Starts.{Starts}
 use Rattle.mc_packet.specs.declared.walk.Chunk.{Chunk}
 use Rattle.mc_packet.specs.declared.walk.Mark.{Mark}
 use Rattle.mc_journal.specs.Told.{Told, told}
-use Rattle.mc_journal.specs.Choices.{is_other}
+use Rattle.mc_packet.specs.Choices.{is_other}
 use Rattle.mc_journal.specs.Films.{first_lane, rank}
 use Rattle.mc_journal.specs.Ranges.{within}
 use Rattle.mc_range.specs.Cutting.{bound_under}

@@ -6,9 +6,10 @@ use Rattle.mc_packet.specs.declared.packet.Pos.{Pos}
 use Rattle.mc_packet.specs.declared.choice.Kind.{Kind}
 use Rattle.mc_packet.specs.declared.choice.Kind.TheVariants.{Video, Audio, Sub}
 use Rattle.mc_packet.specs.declared.walk.Chunk.{Chunk}
-use Rattle.mc_journal.specs.Choices.{or_else}
+use Rattle.mc_packet.specs.Choices.{or_else}
 use Rattle.mc_journal.specs.Films.{rank}
-use Rattle.mc_queue.specs.Places.{Rise, behind, from_place}
+use Rattle.mc_queue.specs.Places.{Rise, behind}
+use Rattle.mc_journal.specs.Views.{from_place}
 use Rattle.mc_queue.specs.Queue.{QueueState, IsQueue, with_packets}
 use Rattle.mc_queue.specs.Union.{later}
 use Rattle.mc_range.specs.declared.queues.Queues.{Queues}

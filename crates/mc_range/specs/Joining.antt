@@ -2,7 +2,7 @@
 use Rattle.std.specs.Prelude.{◌≡◌, ◌≤◌, ◌+◌, nat_lt, nat_le, Bool, true, false, ◌||◌, if◌then◌else◌, Option, Some, None, Result, Ok, Err, IsSomeAnd, ⊤}
 use Rattle.mc_packet.specs.declared.walk.Ending.{Ending}
 use Rattle.mc_packet.specs.declared.walk.Mark.{Mark}
-use Rattle.mc_journal.specs.Choices.{or_else}
+use Rattle.mc_packet.specs.Choices.{or_else}
 use Rattle.mc_queue.specs.declared.differences.Difference.{Difference}
 use Rattle.mc_queue.specs.declared.queue.UnionError.{UnionError}
 use Rattle.mc_queue.specs.declared.queue.UnionError.TheVariants.{NoMemory, Mismatch}

@@ -6,7 +6,7 @@ use Rattle.mc_packet.specs.declared.choice.Choice.{Choice}
 use Rattle.mc_packet.specs.declared.choice.Starts.{Starts}
 use Rattle.mc_packet.specs.declared.walk.Ending.{Ending}
 use Rattle.mc_packet.specs.declared.walk.Mark.{Mark}
-use Rattle.mc_journal.specs.Choices.{or_else, is_distinct}
+use Rattle.mc_packet.specs.Choices.{or_else, is_distinct}
 use Rattle.mc_journal.specs.Films.{rank, first_lane}
 use Rattle.mc_journal.specs.Ranges.{Range, Span, touches}
 use Rattle.mc_queue.specs.Places.{weights}

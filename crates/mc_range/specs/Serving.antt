@@ -7,7 +7,7 @@ use Rattle.mc_packet.specs.declared.cache.Heads.{Heads}
 use Rattle.mc_packet.specs.declared.choice.Choice.{Choice}
 use Rattle.mc_packet.specs.declared.choice.Dir.{Dir}
 use Rattle.mc_journal.specs.Told.{Told, told}
-use Rattle.mc_journal.specs.Choices.{lead_of, passes}
+use Rattle.mc_packet.specs.Choices.{lead_of, passes}
 use Rattle.mc_journal.specs.Films.{rank, first_lane, block_of, time_or, video_sync, audio_sync, audio_dir, least_of}
 use Rattle.mc_journal.specs.Ranges.{Span, on_span, served, held}
 use Rattle.mc_queue.specs.Places.{is_from}

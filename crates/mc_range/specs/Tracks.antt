@@ -6,7 +6,7 @@ use Rattle.mc_packet.specs.declared.choice.Kind.{Kind}
 use Rattle.mc_packet.specs.declared.choice.Kind.TheVariants.{Video, Audio, Sub}
 use Rattle.mc_packet.specs.declared.cache.Spans.{Spans}
 use Rattle.mc_packet.specs.declared.walk.Mark.{Mark}
-use Rattle.mc_journal.specs.Choices.{is_track}
+use Rattle.mc_packet.specs.Choices.{is_track}
 use Rattle.mc_journal.specs.Films.{rank}
 use Rattle.mc_queue.specs.Queue.{QueueState, IsNew}
 use Rattle.mc_range.specs.declared.queues.Queues.{Queues}

@@ -1,6 +1,6 @@
 ghost use Rattle.std.specs.Prelude.{◌≡◌, false, is_some};
 ghost use Rattle.std.specs.Option.{option_copied};
-ghost use Rattle.mc_journal.specs.Choices.{lead_of};
+ghost use Rattle.mc_packet.specs.Choices.{lead_of};
 ghost use Rattle.mc_queue.specs.Times.{IsNearest, is_wanted};
 ghost use Rattle.mc_range.specs.Bounds.{bounds_in, is_last, is_point, lead_queue, serves_time};
 ghost use Rattle.mc_range.specs.Serving.{packets_in};

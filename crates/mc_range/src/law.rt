@@ -8,7 +8,7 @@ ghost use Rattle.mc_packet.specs.declared.choice.Starts.{Starts};
 ghost use Rattle.mc_packet.specs.declared.walk.Chunk.{Chunk};
 ghost use Rattle.mc_packet.specs.declared.walk.Mark.{Mark};
 ghost use Rattle.mc_journal.specs.Told.{Told};
-ghost use Rattle.mc_journal.specs.Choices.{is_distinct};
+ghost use Rattle.mc_packet.specs.Choices.{is_distinct};
 ghost use Rattle.mc_journal.specs.Ranges.{serves, served_head};
 ghost use Rattle.mc_journal.specs.Films.{IsRising};
 ghost use Rattle.mc_journal.specs.Stands.{add_spans, fed_range, keep_tracks, new_range, union_range};

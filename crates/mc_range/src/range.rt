@@ -1,5 +1,5 @@
 ghost use Rattle.std.specs.Prelude.{◌≡◌, Some, None, nat_lt, if◌then◌else◌, ◌≤◌, ◌<◌, ◌+◌, ◌^◌, true, IfOk, IfSome, IfErr, IsSomeAnd, OnErr, OnOk};
-ghost use Rattle.mc_journal.specs.Choices.{is_distinct, or_else};
+ghost use Rattle.mc_packet.specs.Choices.{is_distinct, or_else};
 ghost use Rattle.mc_range.specs.Range.{AtMark, IsBegun, IsRange, IsRoomier, count, is_same, is_same_set, meets_range, queue_of, weight_of_all};
 ghost use Rattle.mc_range.specs.Growing.{IsFed, lacks_room, taker};
 ghost use Rattle.mc_range.specs.Serving.{first_from, heads_of};
@@ -8,11 +8,10 @@ ghost use Rattle.mc_range.specs.Bounds.{bounds_of};
 ghost use Rattle.std.specs.Option.{option_copied};
 ghost use Rattle.std.specs.List.{find};
 ghost use Rattle.mc_journal.specs.Films.{rank};
-ghost use Rattle.mc_queue.specs.Places.{is_from};
+ghost use Rattle.mc_queue.specs.Places.{is_from, weights};
 ghost use Rattle.mc_range.specs.Joining.{IsJoined, JoinRefused, greater};
 ghost use Rattle.mc_range.specs.Tracks.{IsAdded, count_of_all, intervals, queue_under, retracked, selected_under};
 ghost use Rattle.mc_packet.specs.Shape.{HasShape};
-ghost use Rattle.mc_queue.specs.Places.{weights};
 
 use crate::bounding::bounds;
 use crate::cutting::{Cut, drop_next, look_from, weight_from};

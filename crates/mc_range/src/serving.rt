@@ -1,7 +1,7 @@
 ghost use Rattle.std.specs.Prelude.{◌≡◌, ◌==◌, nat_le, ◌&&◌, if◌then◌else◌, is_some};
 ghost use Rattle.std.specs.Option.{option_copied, option_map};
 ghost use Rattle.mc_journal.specs.Told.{told};
-ghost use Rattle.mc_journal.specs.Choices.{lead_of, passes};
+ghost use Rattle.mc_packet.specs.Choices.{lead_of, passes};
 ghost use Rattle.mc_journal.specs.Films.{audio_dir, audio_sync, block_of, first, first_from, first_lane, last, last_upto, least_of, rank, sync_for, time_or, track_sync, video_sync};
 ghost use Rattle.mc_journal.specs.Ranges.{any_below, any_from, served};
 ghost use Rattle.mc_queue.specs.Queue.{IsQueue};

@@ -9,7 +9,8 @@ use Rattle.mc_journal.specs.Films.{rank, first_lane}
 use Rattle.mc_journal.specs.WorkedFilms.{v86, a93}
 use Rattle.mc_journal.specs.Worked.{audio, drain_end, start, video}
 use Rattle.mc_script.specs.declared.acts.Act.TheVariants as acts
-use Rattle.mc_script.specs.Plays.{Each, May, Played, PlayedInPart}
+use Rattle.mc_journal.specs.Drives.{Each}
+use Rattle.mc_script.specs.Plays.{May, Played, PlayedInPart}
 use Rattle.mc_script.specs.PlaysWorked.{all_given, last_drain, halves, halves_left, on_one, one_turn, reads, reads_left, refusals, refusals_left, seek_line, stale, stale_left, two_parts, unselected}
 
 pub stale_played : Played on_one stale None start (start ++ stale_left)

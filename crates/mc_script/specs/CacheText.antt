@@ -17,7 +17,7 @@ use Rattle.mc_journal.specs.declared.record.Sought.{Sought}
 use Rattle.mc_journal.specs.declared.record.Sought.TheVariants.{Cached, Sent}
 use Rattle.mc_journal.specs.declared.record.Cause.{Cause}
 use Rattle.mc_journal.specs.declared.record.Cause.TheVariants.{Limit, TooMany, TrackChanged, Mismatch}
-use Rattle.mc_journal.specs.Choices.{is_empty}
+use Rattle.mc_packet.specs.Choices.{is_empty}
 use Rattle.mc_script.specs.Text.{joined}
 
 -- ---- tracks by rising number

@@ -5,12 +5,12 @@ use Rattle.mc_packet.specs.declared.choice.Kind.TheVariants.{Video, Audio}
 use Rattle.mc_packet.specs.declared.choice.Why.TheVariants.{NoTrack, UnknownTrack}
 use Rattle.mc_journal.specs.declared.record.DemuxRecord.{DemuxRecord}
 use Rattle.mc_journal.specs.declared.record.DemuxRecord.TheVariants.{Opened, Refused}
-use Rattle.mc_journal.specs.Choices.{nothing}
+use Rattle.mc_packet.specs.Choices.{nothing}
 use Rattle.mc_journal.specs.WorkedFilms.{one, opening, c0, v86, a93}
 use Rattle.mc_journal.specs.Worked.{audio, drain_0, drain_1, drain_2, read, seek, start, usual, video}
 use Rattle.mc_script.specs.declared.acts.Act.{Act}
 use Rattle.mc_script.specs.declared.acts.Act.TheVariants as acts
-use Rattle.mc_script.specs.Plays.{Readings, readings}
+use Rattle.mc_journal.specs.Drives.{Readings, readings}
 
 -- the first film, which has no track that a script names
 abbrev pub on_one : Readings

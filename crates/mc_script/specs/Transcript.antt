@@ -9,7 +9,7 @@ use Rattle.mc_packet.specs.declared.packet.Pos.{Pos}
 use Rattle.mc_packet.specs.declared.choice.Choice.{Choice}
 use Rattle.mc_journal.specs.declared.record.DemuxRecord.{DemuxRecord}
 use Rattle.mc_journal.specs.declared.record.DemuxRecord.TheVariants.{Opened, Sought, Switched, Found, Fed, Failed, Starved, Dropped, Joined, Gave, Ended, Overfull, Faulted, Wanting, Shown, Refused}
-use Rattle.mc_journal.specs.Choices.{nothing}
+use Rattle.mc_packet.specs.Choices.{nothing}
 use Rattle.mc_script.specs.Text.{joined}
 use Rattle.mc_script.specs.CacheText.{answer_text, seek_text, switch_text, drop_text, overfull_text, view_text, refused_text}
 

@@ -1,7 +1,7 @@
 ghost use Rattle.std.specs.Prelude.{◌≡◌, string_bytes, OnOk, map, [], ◌∷◌, ◌++◌, codes, decimal};
 ghost use Rattle.std.specs.Fmt.{signed_decimal};
 ghost use Rattle.std.specs.List.{flat_map};
-ghost use Rattle.mc_journal.specs.Choices.{is_empty};
+ghost use Rattle.mc_packet.specs.Choices.{is_empty};
 ghost use Rattle.mc_script.specs.CacheText.{of_kind, number_or, order_by, order_of, answer_text, seek_text, number_text, numbers_text, time_text, switch_text, pos_text, moment_text, limit_text, count_text, mismatch_text, cause_text, dropped_text, drop_text, overfull_text, yes_text, sums_text, ends_text, bounds_text, span_of, queue_text, range_text, view_text, numbered_text, refused_text};
 
 use mc_journal::{Cause, Removal, Sought};

@@ -13,7 +13,7 @@ use Rattle.mc_packet.specs.declared.packet.Pos.{Pos}
 use Rattle.mc_packet.specs.declared.walk.Ending.{Ending}
 use Rattle.mc_range.specs.Range.{RangeState, queue_of}
 use Rattle.mc_queue.specs.Queue.{QueueState}
-use Rattle.mc_journal.specs.Choices.{has, is_track}
+use Rattle.mc_packet.specs.Choices.{has, is_track}
 use Rattle.mc_journal.specs.declared.record.Sought.{Sought as How}
 use Rattle.mc_journal.specs.declared.record.DemuxRecord.{DemuxRecord}
 use Rattle.mc_journal.specs.declared.record.DemuxRecord.TheVariants.{Sought, Switched, Dropped, Refused as RefusedRecord}

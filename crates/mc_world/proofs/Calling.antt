@@ -7,7 +7,7 @@ use Rattle.mc_packet.specs.declared.cache.CacheView.{CacheView}
 use Rattle.mc_walk.specs.Parts.{IsMark}
 use Rattle.mc_journal.specs.declared.record.DemuxRecord.{DemuxRecord}
 use Rattle.mc_journal.specs.declared.record.Sought.{Sought as How}
-use Rattle.mc_journal.specs.Choices.{lead_of, passes}
+use Rattle.mc_packet.specs.Choices.{lead_of, passes}
 use Rattle.mc_journal.specs.Films.{is_listed}
 use Rattle.mc_cursor.specs.declared.cursor.Cursor.{Cursor}
 use Rattle.mc_cursor.specs.Standing.{plan_for}

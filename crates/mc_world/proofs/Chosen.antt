@@ -8,7 +8,8 @@ use Rattle.mc_packet.specs.declared.choice.Kind.TheVariants.{Video, Audio, Sub}
 use Rattle.mc_packet.specs.declared.cache.Limits.{Limits}
 use Rattle.mc_journal.specs.declared.record.DemuxRecord.{DemuxRecord}
 use Rattle.mc_journal.specs.declared.record.DemuxRecord.TheVariants.{Opened, Sought, Switched, Found, Fed, Failed, Starved, Dropped, Joined, Gave, Ended, Overfull, Faulted, Wanting, Shown, Refused}
-use Rattle.mc_journal.specs.Choices.{passes, lead_of, is_other, is_distinct, is_known, kept_track, kept_of}
+use Rattle.mc_packet.specs.Choices.{passes, lead_of, is_other, is_distinct, is_known}
+use Rattle.mc_journal.specs.Choices.{kept_track, kept_of}
 use Rattle.mc_journal.specs.Films.{Film, is_listed}
 use Rattle.mc_journal.specs.Readings.{selected}
 use Rattle.mc_journal.specs.Used.{IsUsed}

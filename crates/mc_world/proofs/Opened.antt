@@ -19,7 +19,7 @@ use Rattle.mc_walk.specs.Opening.{segment_of, header_of, plan_of, opened_film}
 use Rattle.mc_walk.specs.Parts.{IsMark}
 use Rattle.mc_walk.specs.Parts.IsMark.{at_opening}
 use Rattle.mc_walk.proofs.Opened.{opened-lies}
-use Rattle.mc_journal.specs.Choices.{passes, is_other, is_known}
+use Rattle.mc_packet.specs.Choices.{passes, is_other, is_known}
 use Rattle.mc_journal.specs.Films.{is_listed}
 use Rattle.mc_cursor.specs.declared.cursor.Cursor.{Cursor}
 use Rattle.mc_cursor.specs.Standing.{StandsFor as CursorStandsFor, plan_for}

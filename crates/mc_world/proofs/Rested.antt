@@ -14,7 +14,8 @@ use Rattle.mc_packet.specs.declared.packet.Packet.{Packet}
 use Rattle.mc_packet.specs.declared.cache.Limits.{Limits}
 use Rattle.mc_journal.specs.declared.record.DemuxRecord.{DemuxRecord}
 use Rattle.mc_journal.specs.declared.record.DemuxRecord.TheVariants.{Opened, Sought, Switched, Failed, Starved, Ended, Faulted, Wanting}
-use Rattle.mc_journal.specs.Choices.{has, is_track, kept_of, kept_track}
+use Rattle.mc_packet.specs.Choices.{has, is_track}
+use Rattle.mc_journal.specs.Choices.{kept_of, kept_track}
 use Rattle.mc_journal.specs.Films.{Film, at as place}
 use Rattle.mc_journal.specs.Readings.{failed, last_fault, selected}
 use Rattle.mc_journal.specs.Used.{IsFailure, IsUsed, IsWant, can_end}
@@ -28,7 +29,8 @@ use Rattle.mc_demux.specs.State.{DemuxState, next_in}
 use Rattle.mc_demux.specs.declared.answer.Peek.{Peek}
 use Rattle.mc_demux.specs.declared.answer.Peek.TheVariants.{Finish}
 use Rattle.mc_demux.proofs.Showing.{front_is, tells_is}
-use Rattle.mc_script.specs.Plays.{OfEach, is_order, reader, readings, selection, still_left, tells_reader, untold}
+use Rattle.mc_journal.specs.Drives.{OfEach, is_order, readings, selection, still_left, tells_reader, untold}
+use Rattle.mc_journal.specs.Callers.{reader}
 use Rattle.mc_lines.specs.Calls.{AtRest}
 use Rattle.mc_world.specs.Machines.{choice_for}
 

@@ -6,7 +6,7 @@ use Rattle.mc_demux.proofs.Laws.{stands_ended}
 use Rattle.mc_demux.proofs.Resting.{rests as demux_rests}
 use Rattle.mc_demux.specs.Demuxers.{IsDemux}
 use Rattle.mc_demux.specs.Jobs.{job_of}
-use Rattle.mc_script.specs.Plays.{Readings, readings}
+use Rattle.mc_journal.specs.Drives.{Readings, readings}
 use Rattle.mc_lines.specs.Calls.{AtRest, at}
 use Rattle.mc_world.specs.declared.driver.Driver.{Driver}
 use Rattle.mc_world.specs.Filmed.{film_for}

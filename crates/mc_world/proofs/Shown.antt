@@ -9,7 +9,7 @@ use Rattle.mc_packet.specs.declared.choice.Dir.{Dir}
 use Rattle.mc_packet.specs.declared.choice.Why.{Why}
 use Rattle.mc_packet.specs.declared.packet.Packet.{Packet}
 use Rattle.mc_journal.specs.declared.record.DemuxRecord.{DemuxRecord}
-use Rattle.mc_journal.specs.Choices.{lead_of}
+use Rattle.mc_packet.specs.Choices.{lead_of}
 use Rattle.mc_journal.specs.Films.{Film, at as place}
 use Rattle.mc_journal.specs.Readings.{selected}
 use Rattle.mc_journal.specs.Views.{is_idle, next, time_of}
@@ -24,7 +24,7 @@ use Rattle.mc_demux.specs.State.{DemuxState, next_in}
 use Rattle.mc_demux.proofs.Showing.{front_is, own_is, pending_is, set_is, tells_is}
 use Rattle.mc_demux.proofs.Idling.{idle_is}
 use Rattle.mc_demux.proofs.Emptied.{quiet_is}
-use Rattle.mc_script.specs.Plays.{readings}
+use Rattle.mc_journal.specs.Drives.{readings}
 use Rattle.mc_lines.specs.Calls.{Ahead, AnswersOn, at}
 use Rattle.mc_world.specs.Machines.{ahead_of, choice_for, place_of, would_tell}
 use Rattle.mc_world.proofs.Called.{next_gave, next_none}

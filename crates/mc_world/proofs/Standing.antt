@@ -12,7 +12,7 @@ use Rattle.mc_walk.specs.declared.plan.Plan.{Plan}
 use Rattle.mc_walk.specs.Parts.{IsMark}
 use Rattle.mc_walk.specs.Parts.IsMark.{at_end}
 use Rattle.mc_journal.specs.declared.record.DemuxRecord.{DemuxRecord}
-use Rattle.mc_journal.specs.Choices.{passes, is_known}
+use Rattle.mc_packet.specs.Choices.{passes, is_known}
 use Rattle.mc_journal.specs.Films.{is_listed}
 use Rattle.mc_journal.specs.Readings.{waits}
 use Rattle.mc_cursor.specs.declared.cursor.Cursor.{Cursor}

@@ -6,7 +6,8 @@ use Rattle.mc_packet.specs.declared.choice.Choice.{Choice}
 use Rattle.mc_packet.specs.declared.choice.Dir.{Dir}
 use Rattle.mc_packet.specs.declared.choice.Starts.{Starts}
 use Rattle.mc_walk.specs.declared.plan.Plan.{Plan}
-use Rattle.mc_journal.specs.Choices.{OnTrack, is_known}
+use Rattle.mc_packet.specs.Choices.{is_known}
+use Rattle.mc_journal.specs.Choices.{OnTrack}
 use Rattle.mc_journal.specs.Films.{start_of, switch_start}
 use Rattle.mc_journal.specs.Allowed.{EachStart}
 use Rattle.mc_index.specs.Answers.{AreFor, AreOfBlocks, AreStarts, SeekStarts, SwitchStarts, is_lead}

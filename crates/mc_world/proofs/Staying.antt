@@ -26,7 +26,7 @@ use Rattle.mc_demux.specs.Seeking.{IsRefused, Seeks}
 use Rattle.mc_demux.specs.Selecting.{Selects}
 use Rattle.mc_demux.specs.State.{DemuxState}
 use Rattle.mc_demux.specs.Viewing.{Shows}
-use Rattle.mc_script.specs.Plays.{Readings, readings}
+use Rattle.mc_journal.specs.Drives.{Readings, readings}
 use Rattle.mc_world.specs.declared.brought.Brought.{Brought}
 use Rattle.mc_world.specs.declared.brought.Brought.TheVariants.{Part, Starts, Nothing}
 use Rattle.mc_world.specs.Filmed.{film_for}

@@ -2,7 +2,7 @@
 use Rattle.std.specs.Prelude.{◌≡◌, ℕ, true, List}
 use Rattle.std.specs.List.{AllByRecursion}
 use Rattle.mc_walk.specs.Parts.{IsMark}
-use Rattle.mc_journal.specs.Choices.{passes}
+use Rattle.mc_packet.specs.Choices.{passes}
 use Rattle.mc_journal.specs.Films.{is_listed}
 use Rattle.mc_cursor.specs.declared.cursor.Cursor.{Cursor}
 use Rattle.mc_cursor.specs.Standing.{StandsFor as CursorStandsFor, plan_for}

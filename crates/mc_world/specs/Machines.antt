@@ -5,7 +5,7 @@ use Rattle.mc_packet.specs.declared.choice.Choice.{Choice}
 use Rattle.mc_packet.specs.declared.choice.Why.{Why}
 use Rattle.mc_packet.specs.declared.packet.Packet.{Packet}
 use Rattle.mc_tracks.specs.declared.track.Track.{Track}
-use Rattle.mc_journal.specs.Choices.{has, lead_of}
+use Rattle.mc_packet.specs.Choices.{has, lead_of}
 use Rattle.mc_journal.specs.Films.{rank}
 use Rattle.mc_journal.specs.Views.{time_of}
 use Rattle.mc_cursor.specs.Standing.{plan_for}
@@ -19,7 +19,7 @@ use Rattle.mc_demux.specs.Readings.{peek_at, reading_of}
 use Rattle.mc_demux.specs.Selecting.{choice_of, refusal_of}
 use Rattle.mc_demux.specs.Shows.{goal_of, is_finish, is_idle_job}
 use Rattle.mc_demux.specs.State.{DemuxState, next_in}
-use Rattle.mc_script.specs.Plays.{Readings, readings}
+use Rattle.mc_journal.specs.Drives.{Readings, readings}
 use Rattle.mc_lines.specs.Calls.{Ahead, AtRest, Fixed, Jobs, at}
 use Rattle.mc_world.specs.declared.brought.Brought.{Brought}
 use Rattle.mc_world.specs.declared.driver.Driver.{Driver}

@@ -7,7 +7,7 @@ ghost use Rattle.mc_tracks.specs.TrackList.{IsTrackList, default_choice_of};
 ghost use Rattle.mc_walk.specs.declared.plan.Plan.{Plan};
 ghost use Rattle.mc_walk.specs.Opening.{opened_film};
 ghost use Rattle.mc_walk.specs.Parts.{opening_mark};
-ghost use Rattle.mc_journal.specs.Choices.{is_known};
+ghost use Rattle.mc_packet.specs.Choices.{is_known};
 ghost use Rattle.mc_journal.specs.Films.{IsFilm};
 ghost use Rattle.mc_cursor.specs.declared.cursor.Cursor.{Cursor};
 ghost use Rattle.mc_cursor.specs.Standing.{StandsFor as CursorStandsFor, plan_for};

@@ -6,7 +6,7 @@ ghost use Rattle.mc_packet.specs.declared.choice.Starts.{Starts};
 ghost use Rattle.mc_packet.specs.declared.walk.Mark.{Mark};
 ghost use Rattle.mc_walk.specs.declared.plan.Plan.{Plan};
 ghost use Rattle.mc_walk.specs.Parts.{chunk_at, IsMark};
-ghost use Rattle.mc_journal.specs.Choices.{is_known};
+ghost use Rattle.mc_packet.specs.Choices.{is_known};
 ghost use Rattle.mc_journal.specs.Films.{IsFilm, start_of, switch_start};
 ghost use Rattle.mc_index.specs.Answers.{AreOfBlocks, SeekStarts, SwitchStarts, is_lead};
 ghost use Rattle.mc_index.specs.Fronts.{film_told, known_in};

@@ -1,6 +1,6 @@
 use Rattle.std.proofs.Common.{refl, ◌∙◌, arith}
 use Rattle.std.specs.Prelude.{Ok, true}
-use Rattle.mc_script.specs.Plays.{reader}
+use Rattle.mc_journal.specs.Callers.{reader}
 use Rattle.mc_lines.specs.declared.next.Next.TheVariants as nexts
 use Rattle.mc_lines.proofs.Drained.{gave, one_grows, start_on, told, turned}
 use Rattle.mc_lines.proofs.Filming.{next_on, turns_on}

@@ -1,7 +1,7 @@
 use Rattle.std.proofs.Common.{◌≡◌, ℕ, List, drop}
 use Rattle.std.specs.Prelude.{Some}
 use Rattle.mc_outside.specs.Shelf.{content}
-use Rattle.mc_script.specs.Plays.{Readings}
+use Rattle.mc_journal.specs.Drives.{Readings}
 use Rattle.mc_lines.specs.Lines.{Grows}
 use Rattle.mc_lines.specs.Runs.{IsAwaited}
 use Rattle.mc_lines.proofs.Playing.{Paired, Reached}

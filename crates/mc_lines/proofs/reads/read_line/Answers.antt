@@ -1,6 +1,8 @@
 use Rattle.std.proofs.Common.{sym, refl, ◌≡◌, ◌∙◌, Some}
 use Rattle.std.specs.Prelude.{Ok}
-use Rattle.mc_script.specs.Plays.{reader, selection, track_of}
+use Rattle.mc_journal.specs.Callers.{reader}
+use Rattle.mc_journal.specs.Drives.{selection}
+use Rattle.mc_packet.specs.Choices.{track_of}
 use Rattle.mc_lines.proofs.Asking.{last, next, read_orders, start, track_read}
 use Rattle.mc_lines.proofs.Filming.{read_on}
 use Rattle.mc_lines.proofs.Growing.{orders_none, orders_on}

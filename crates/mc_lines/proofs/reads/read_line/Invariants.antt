@@ -1,5 +1,5 @@
 use Rattle.std.proofs.Common.{◌≡◌, ℕ, List}
-use Rattle.mc_script.specs.Plays.{Readings}
+use Rattle.mc_journal.specs.Drives.{Readings}
 use Rattle.mc_lines.specs.Lines.{Orders}
 use Rattle.mc_lines.proofs.Asking.{Given}
 use Rattle.mc_lines.proofs.reads.read_line.Given as goal

@@ -1,6 +1,6 @@
 use Rattle.std.proofs.Common.{◌≡◌, true, subst, sym}
 use Rattle.mc_packet.specs.declared.choice.Choice.{Choice}
-use Rattle.mc_journal.specs.Choices.{is_known}
+use Rattle.mc_packet.specs.Choices.{is_known}
 use Rattle.mc_demux.specs.Selecting.{knows}
 use Rattle.mc_world.proofs.Opened.{default-known}
 use Rattle.mc_play.proofs.Plays.{wide_limits}

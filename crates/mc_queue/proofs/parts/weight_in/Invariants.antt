@@ -1,6 +1,7 @@
 use Rattle.std.proofs.Common.{◌≡◌, take}
 use Rattle.mc_journal.specs.Films.{rank}
-use Rattle.mc_queue.specs.Places.{from_place, weights}
+use Rattle.mc_journal.specs.Views.{from_place}
+use Rattle.mc_queue.specs.Places.{weights}
 use Rattle.mc_queue.proofs.parts.weight_in.Given as goal
 
 abbrev pub invariant-loop-packet : goal.invariant-loop-packet

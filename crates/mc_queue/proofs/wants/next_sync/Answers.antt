@@ -1,7 +1,7 @@
 use Rattle.std.proofs.Common.{rules, ◌<◌, drop, length, ap, sym, ◌∙◌}
 use Rattle.mc_packet.specs.declared.packet.Pos.{Pos}
 use Rattle.std.specs.Prelude.{Option}
-use Rattle.mc_journal.specs.Choices.{or_else}
+use Rattle.mc_packet.specs.Choices.{or_else}
 use Rattle.mc_queue.specs.Queue.{first_that, is_sync}
 use Rattle.mc_queue.specs.Blocks.{flat}
 use Rattle.mc_queue.proofs.NextSync.{next_in}

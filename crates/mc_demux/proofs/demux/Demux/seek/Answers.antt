@@ -3,7 +3,7 @@ use Rattle.std.specs.Prelude.{reverse}
 use Rattle.std.proofs.lemmas.Int.{to_z-of_z}
 use Rattle.mc_packet.specs.declared.choice.Choice.{Choice}
 use Rattle.mc_packet.specs.declared.choice.Why.TheVariants.{NoTrack}
-use Rattle.mc_journal.specs.Choices.{is_empty}
+use Rattle.mc_packet.specs.Choices.{is_empty}
 use Rattle.mc_journal.specs.Readings.{selected}
 use Rattle.mc_demux.specs.State.{DemuxState}
 use Rattle.mc_demux.specs.Demuxers.{IsDemux}

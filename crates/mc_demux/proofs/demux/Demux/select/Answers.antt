@@ -4,7 +4,7 @@ use mir.Val.{SFits}
 use Rattle.std.proofs.lemmas.Int.{to_z-of_z}
 use Rattle.mc_packet.specs.declared.choice.Choice.{Choice}
 use Rattle.mc_tracks.specs.declared.track.Track.{Track}
-use Rattle.mc_journal.specs.Choices.{is_known}
+use Rattle.mc_packet.specs.Choices.{is_known}
 use Rattle.mc_demux.specs.State.{DemuxState}
 use Rattle.mc_demux.specs.Demuxers.{IsDemux}
 use Rattle.mc_demux.specs.Records.{HasRoom}

@@ -3,7 +3,7 @@ use mir.Val.{SFits}
 use Rattle.std.specs.Prelude.{vec_capacity}
 use Rattle.std.proofs.lemmas.Int.{to_z-of_z}
 use Rattle.mc_journal.specs.declared.record.Removal.{Removal}
-use Rattle.mc_journal.specs.Choices.{is_known}
+use Rattle.mc_packet.specs.Choices.{is_known}
 use Rattle.mc_cache.specs.Cache.{count_of, ranges_of}
 use Rattle.mc_demux.specs.Selecting.{added_to, knows}
 use Rattle.mc_demux.specs.State.{DemuxState}

@@ -1,6 +1,7 @@
 use Rattle.std.proofs.Common.{◌≡◌, ◌+◌, ◌<◌, ◌^◌, drop, arith, ap, subst, sym, ◌∙◌}
 use Rattle.mc_journal.specs.Films.{rank}
-use Rattle.mc_queue.specs.Places.{Rise, from_place, weights}
+use Rattle.mc_queue.specs.Places.{Rise, weights}
+use Rattle.mc_journal.specs.Views.{from_place}
 use Rattle.mc_queue.specs.Queue.{QueueState, first_that, is_sync}
 use Rattle.mc_queue.proofs.Rising.{grown, less_weight_from}
 use Rattle.mc_queue.proofs.Rests.{more_ahead}

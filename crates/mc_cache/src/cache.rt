@@ -1,10 +1,10 @@
 ghost use Rattle.std.specs.Prelude.{◌≡◌, ◌≤◌, ◌<◌, ◌+◌, ◌^◌, true, [], Some, None, length, IfOk, IfSome, IsSomeAnd, find, OnErr, OnOk, OnSome, IfNone, drop};
 ghost use Rattle.std.specs.Option.{option_copied};
 ghost use Rattle.mc_packet.specs.Shape.{HasShape};
-ghost use Rattle.mc_packet.specs.Choices.{is_distinct};
+ghost use Rattle.mc_packet.specs.Choices.{is_distinct, AreAtMark};
 ghost use Rattle.mc_journal.specs.Films.{rank};
 ghost use Rattle.mc_queue.specs.Places.{weights};
-ghost use Rattle.mc_range.specs.Range.{AtMark, IsBegun, IsRange};
+ghost use Rattle.mc_range.specs.Range.{IsBegun, IsRange};
 ghost use Rattle.mc_range.specs.Growing.{IsFed, lacks_room, taker};
 ghost use Rattle.mc_cache.specs.Cache.{IsCache, count_of, ending_in, first_in, in_front, mark_in, ranges_of, weight_in, weight_of, with_current, with_others, with_prepared, without_first, Fewer};
 ghost use Rattle.mc_journal.specs.declared.record.Cause.TheVariants.{TooMany};
@@ -309,9 +309,7 @@ impl Cache {
     /// The range that is held ready for these starts, or a new one.
     fn take_ready(&mut self, set: Choice, starts: &Starts) -> Range
         requires distinct { is_distinct set ≡ true }
-        requires video { AtMark starts.now.mark.pos starts.now.video }
-        requires audio { AtMark starts.now.mark.pos starts.now.audio }
-        requires sub { AtMark starts.now.mark.pos starts.now.sub }
+        requires at_mark { AreAtMark starts.now }
         ensures begun { IsBegun set starts.now result }
         ensures range { IsRange result }
         ensures ready { IfSome self.old.prepared (λ p. p.starts ≡ starts.now → p.range.set ≡ set → result ≡ p.range) }
@@ -343,9 +341,7 @@ impl Cache {
     /// room for the packets of all ranges, where one of them touches it. Only the room changes.
     pub fn make_room_to_start(&mut self, set: Choice, starts: &Starts) -> Result<(), NoMemory>
         requires distinct { is_distinct set ≡ true }
-        requires video { AtMark starts.now.mark.pos starts.now.video }
-        requires audio { AtMark starts.now.mark.pos starts.now.audio }
-        requires sub { AtMark starts.now.mark.pos starts.now.sub }
+        requires at_mark { AreAtMark starts.now }
         ensures same { IsSameButRoom self.old self.new }
         ensures ok { OnOk result (HasRoomToStart self.new) }
         ensures joins { OnOk result (IsPrepared set starts.now self.new) }
@@ -405,9 +401,7 @@ impl Cache {
     #[tactic(auto, using(crate::proofs::Started::begun_light, crate::proofs::Started::room_to_join))]
     pub fn start_range(&mut self, set: Choice, starts: &Starts) -> Result<Drops, NoMemory>
         requires distinct { is_distinct set ≡ true }
-        requires video { AtMark starts.now.mark.pos starts.now.video }
-        requires audio { AtMark starts.now.mark.pos starts.now.audio }
-        requires sub { AtMark starts.now.mark.pos starts.now.sub }
+        requires at_mark { AreAtMark starts.now }
         ensures ok { IfOk result (λ drops. IsStarted set starts.now drops self.old self.new) }
         ensures room { OnOk result (IsPrepared set starts.now self.old → HasRoomToJoin self.new) }
         ensures err { OnErr result (IsSameButRoom self.old self.new) }

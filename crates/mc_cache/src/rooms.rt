@@ -1,6 +1,6 @@
 ghost use Rattle.std.specs.Prelude.{◌≡◌, ◌≤◌, ◌<◌, ◌+◌, ◌^◌, true, [], vec_capacity, IfOk, IfSome, OnErr, OnOk, position};
-ghost use Rattle.mc_range.specs.Range.{AtMark, IsRange, IsRoomier};
-ghost use Rattle.mc_packet.specs.Choices.{is_distinct};
+ghost use Rattle.mc_packet.specs.Choices.{AreAtMark, is_distinct};
+ghost use Rattle.mc_range.specs.Range.{IsRange, IsRoomier};
 ghost use Rattle.mc_cache.specs.Cache.{IsReady, in_front, weight_of};
 ghost use Rattle.mc_cache.specs.Changing.{RoomierIn};
 ghost use Rattle.mc_cache.specs.Rooms.{HasRoomFor, HasSpareFor, MayTake, count_at_all, longer, longer_spans, meets_any, meets_in, meets_then, meets_then_in};
@@ -193,9 +193,7 @@ pub(crate) fn make_ready(
     drops: &mut Vec<Removal>,
 ) -> Result<Prepared, NoMemory>
     requires distinct { is_distinct set ≡ true }
-    requires video { AtMark starts.now.mark.pos starts.now.video }
-    requires audio { AtMark starts.now.mark.pos starts.now.audio }
-    requires sub { AtMark starts.now.mark.pos starts.now.sub }
+    requires at_mark { AreAtMark starts.now }
     requires fits { weight_of (in_front front.now others.now) < 2 ^ 64 }
     ensures starts { IfOk result (λ p. p.starts ≡ starts.now) }
     ensures set { IfOk result (λ p. p.range.set ≡ set) }

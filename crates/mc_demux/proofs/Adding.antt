@@ -13,10 +13,10 @@ use Rattle.mc_packet.specs.declared.choice.Kind.TheVariants.{Video, Audio, Sub}
 use Rattle.mc_packet.specs.declared.walk.Mark.{Mark}
 use Rattle.mc_packet.specs.declared.cache.Heads.{Heads}
 use Rattle.mc_packet.specs.declared.choice.Starts.{Starts}
-use Rattle.mc_packet.specs.Choices.{has, is_distinct, is_other, is_track, nothing}
+use Rattle.mc_packet.specs.Choices.{AreAtMark, has, is_distinct, is_other, is_track, nothing, AtMark}
 use Rattle.mc_queue.specs.Queue.{QueueState, IsNew}
 use Rattle.mc_range.specs.declared.queues.Queues.{Queues}
-use Rattle.mc_range.specs.Range.{RangeState, AtMark, IsRange, count, place_at, queue_of, weight_in as queue_weight}
+use Rattle.mc_range.specs.Range.{RangeState, IsRange, count, place_at, queue_of, weight_in as queue_weight}
 use Rattle.mc_range.specs.Tracks.{IsAdded, queue_under, selected_under, with_queue}
 use Rattle.mc_cache.specs.Cache.{CacheState, IsCache, in_front, ranges_of}
 use Rattle.mc_cache.specs.Changing.{AddsTrack}
@@ -26,7 +26,7 @@ use Rattle.mc_demux.specs.Outcomes.{AreStartsFor, head_at, heads_at}
 use Rattle.mc_demux.specs.State.{head_of}
 use Rattle.mc_demux.proofs.Placing.{IsThere, kinds_placed, set_kinds}
 use Rattle.mc_demux.proofs.Seeking.{has_video, has_audio, has_sub}
-use Rattle.mc_demux.proofs.Starting.{AreAtMark, HasBegun}
+use Rattle.mc_demux.proofs.Starting.{HasBegun}
 
 -- ---- one kind after another
 

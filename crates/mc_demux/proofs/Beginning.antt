@@ -8,7 +8,7 @@ use Rattle.mc_packet.specs.declared.cache.Heads.{Heads}
 use Rattle.mc_packet.specs.declared.cache.Limits.{Limits}
 use Rattle.mc_journal.specs.declared.record.DemuxRecord.{DemuxRecord}
 use Rattle.mc_journal.specs.declared.record.DemuxRecord.TheVariants.{Found}
-use Rattle.mc_packet.specs.Choices.{is_empty, nothing}
+use Rattle.mc_packet.specs.Choices.{AreAtMark, is_empty, nothing}
 use Rattle.mc_range.specs.Range.{RangeState, IsRange}
 use Rattle.mc_cache.specs.Cache.{CacheState, IsCache, mark_in, ranges_of, weight_of}
 use Rattle.mc_cache.specs.Changing.{IsSameButRoom}
@@ -25,7 +25,7 @@ use Rattle.mc_demux.proofs.Awaited.{none_await}
 use Rattle.mc_demux.proofs.Resting.{own_set}
 use Rattle.mc_demux.proofs.Roomy.{roomy_is}
 use Rattle.mc_demux.proofs.Settled.{WritesExtras, drops_extras, longer, settled}
-use Rattle.mc_demux.proofs.Starting.{AreAtMark, HasBegun, StartsAwaited, at_mark, start_begins, starts_awaited}
+use Rattle.mc_demux.proofs.Starting.{HasBegun, StartsAwaited, at_mark, start_begins, starts_awaited}
 
 -- ---- whether a range is current
 

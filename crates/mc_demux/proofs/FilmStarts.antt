@@ -10,7 +10,7 @@ use Rattle.mc_packet.specs.declared.cache.Heads.{Heads}
 use Rattle.mc_packet.specs.declared.cache.Limits.{Limits}
 use Rattle.mc_journal.specs.declared.record.DemuxRecord.{DemuxRecord}
 use Rattle.mc_journal.specs.declared.record.DemuxRecord.TheVariants.{Found}
-use Rattle.mc_packet.specs.Choices.{or_else, has, is_empty, nothing}
+use Rattle.mc_packet.specs.Choices.{AreAtMark, or_else, has, is_empty, nothing, AtMark}
 use Rattle.mc_journal.specs.Choices.{kept_of, kept_track, meets, some_of, OnTrack}
 use Rattle.mc_journal.specs.Films.{Film, IsRegular, start_of, switch_start}
 use Rattle.mc_journal.specs.Readings.{selected, failed, pending, waits, read_from}
@@ -18,7 +18,7 @@ use Rattle.mc_journal.specs.Stands.{stand}
 use Rattle.mc_journal.specs.Views.{head}
 use Rattle.mc_journal.specs.Allowed.{EachStart, MayFind, StartsOf}
 use Rattle.mc_journal.specs.Used.{is_still, place_of_starts}
-use Rattle.mc_range.specs.Range.{RangeState, AtMark, as_range}
+use Rattle.mc_range.specs.Range.{RangeState, as_range}
 use Rattle.mc_range.specs.Serving.{HoldsFilm}
 use Rattle.mc_demux.specs.declared.job.Job.{Job}
 use Rattle.mc_demux.specs.declared.job.Job.TheVariants.{SeekTo, Refresh, Resume, Read, Idle}
@@ -30,7 +30,7 @@ use Rattle.mc_demux.specs.Demuxers.{IsDemux, KeepsJob}
 use Rattle.mc_demux.specs.Film.{AreFilmStarts, AreStartsOf, Fits, PlacesAre, failure_record}
 use Rattle.mc_demux.specs.Outcomes.{AreStartsFor, StartsFit}
 use Rattle.mc_demux.proofs.Seeking.{has_video, has_audio, has_sub, none_of, not_nothing}
-use Rattle.mc_demux.proofs.Starting.{AreAtMark, at_mark, no_seek}
+use Rattle.mc_demux.proofs.Starting.{at_mark, no_seek}
 
 -- ---- the readings behind it
 

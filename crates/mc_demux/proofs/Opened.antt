@@ -16,7 +16,7 @@ use Rattle.mc_tracks.specs.declared.track.Track.{Track}
 use Rattle.mc_journal.specs.declared.record.DemuxRecord.{DemuxRecord}
 use Rattle.mc_journal.specs.declared.record.DemuxRecord.TheVariants.{Opened}
 use Rattle.mc_journal.specs.declared.record.Removal.{Removal}
-use Rattle.mc_packet.specs.Choices.{has, is_distinct, is_known, is_track, nothing, passes}
+use Rattle.mc_packet.specs.Choices.{has, is_distinct, is_known, is_track, nothing, passes, AtMark}
 use Rattle.mc_journal.specs.Films.{Film, first_lane, rank}
 use Rattle.mc_journal.specs.Ranges.{Range, Span}
 use Rattle.mc_journal.specs.Readings.{waits}
@@ -24,7 +24,7 @@ use Rattle.mc_journal.specs.Stands.{empty_span, span_given}
 use Rattle.mc_journal.specs.Used.{is_still}
 use Rattle.mc_journal.specs.Views.{was_ended}
 use Rattle.mc_queue.specs.Queue.{QueueState}
-use Rattle.mc_range.specs.Range.{RangeState, AtMark, IsBegun, IsRange, as_range, queue_of, span_of, spans_of}
+use Rattle.mc_range.specs.Range.{RangeState, IsBegun, IsRange, as_range, queue_of, span_of, spans_of}
 use Rattle.mc_range.proofs.Chosen.{begun_film, begun_ranges, start_map}
 use Rattle.mc_cache.specs.Cache.{CacheState, IsCache, in_front, left_with, ranges_of, weight_of}
 use Rattle.mc_cache.specs.Changing.{IsNew, IsStarted}

@@ -10,11 +10,9 @@ use Rattle.mc_packet.specs.Choices.{or_else}
 use Rattle.mc_journal.specs.Films.{rank}
 use Rattle.mc_queue.specs.Queue.{QueueState}
 use Rattle.mc_range.specs.declared.queues.Queues.{Queues}
-use Rattle.mc_range.specs.Range.{RangeState, Roomier, own, queue_of}
+use Rattle.mc_range.specs.Range.{RangeState, Roomier, own, queue_of, IsRoomier, place_at}
 use Rattle.mc_range.specs.Growing.{ExtendsIn, IsFed}
 use Rattle.mc_range.specs.Joining.{IsJoined, UnitesIn}
-use Rattle.mc_range.specs.Range.{IsRoomier}
-use Rattle.mc_range.specs.Range.{place_at}
 use Rattle.mc_packet.specs.declared.walk.Chunk.{Chunk}
 use Rattle.mc_demux.specs.declared.waiting.Target.{Target}
 use Rattle.mc_demux.specs.State.{head_of}

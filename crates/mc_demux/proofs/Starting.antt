@@ -11,10 +11,10 @@ use Rattle.mc_packet.specs.declared.cache.Heads.{Heads}
 use Rattle.mc_journal.specs.declared.record.Cause.{Cause}
 use Rattle.mc_journal.specs.declared.record.Cause.TheVariants.{TooMany}
 use Rattle.mc_journal.specs.declared.record.Removal.{Removal}
-use Rattle.mc_packet.specs.Choices.{is_empty, nothing}
+use Rattle.mc_packet.specs.Choices.{AreAtMark, AtMark, is_empty, nothing}
 use Rattle.mc_journal.specs.Used.{least_start}
 use Rattle.mc_queue.specs.Queue.{QueueState}
-use Rattle.mc_range.specs.Range.{RangeState, AtMark, IsBegun, IsRange, StartsAt, count}
+use Rattle.mc_range.specs.Range.{RangeState, IsBegun, IsRange, StartsAt, count}
 use Rattle.mc_cache.specs.Cache.{CacheState, IsCache, count_in, count_of, in_front, left_with, ranges_of, weight_of}
 use Rattle.mc_cache.specs.Changing.{IsStarted}
 use Rattle.mc_cache.specs.Removals.{removals_of, removals_of_all}
@@ -130,13 +130,6 @@ awaited_kept d starts (Some job) i k f = awaited_job d starts job i k f
 
 pub starts_awaited : (d : DemuxState) (starts : Starts) → IsDemux d → IsSomeAnd d.kept (StartsFit starts) → StartsAwaited d starts
 starts_awaited d starts i f = awaited_kept d starts d.kept i i.kept f
-
--- ---- the mark is at the least start
-
-pub record AreAtMark (starts : Starts) : Type 0 where
-  pub video : AtMark starts.mark.pos starts.video
-  pub audio : AtMark starts.mark.pos starts.audio
-  pub sub : AtMark starts.mark.pos starts.sub
 
 least_first : (v a s : Option ℕ) → IfSome v (λ at. option_map_or (λ block. block) (least_start v (least_start a s)) 0 ≤ at)
 least_first None a s = tt

@@ -2,7 +2,7 @@
 ghost use Rattle.std.specs.Prelude.{◌≡◌, ◌≤◌, ◌+◌, ◌∷◌, true, IfNone, IfSome, IsSomeAnd, OnOk, OnErr, vec_len, vec_capacity};
 ghost use Rattle.mc_packet.specs.Choices.{is_distinct};
 ghost use Rattle.mc_journal.specs.Films.{Film};
-ghost use Rattle.mc_range.specs.Range.{AtMark};
+ghost use Rattle.mc_packet.specs.Choices.{AreAtMark};
 ghost use Rattle.mc_cache.specs.Cache.{IsCache, count_of, ranges_of};
 ghost use Rattle.mc_cache.specs.Changing.{IsSameButRoom};
 ghost use Rattle.mc_cache.specs.Rooms.{HasRoomToJoin, IsPrepared};
@@ -80,9 +80,7 @@ fn begin_range(
 ) -> Result<(), NoMemory>
     requires none { cache.old.current ≡ None }
     requires distinct { is_distinct set ≡ true }
-    requires video { AtMark starts.now.mark.pos starts.now.video }
-    requires audio { AtMark starts.now.mark.pos starts.now.audio }
-    requires sub { AtMark starts.now.mark.pos starts.now.sub }
+    requires at_mark { AreAtMark starts.now }
     requires room { vec_len journal.old + 4 ≤ vec_capacity journal.old }
     ensures ok { OnOk result (BeginsRange set starts.now cache.old journal.old.items cache.new journal.new.items) }
     ensures err { OnErr result (IsSameButRoom cache.old cache.new) }
@@ -113,9 +111,7 @@ fn begin(
     journal: &mut DemuxJournal,
 ) -> Result<(), NoMemory>
     requires distinct { is_distinct set ≡ true }
-    requires video { AtMark starts.now.mark.pos starts.now.video }
-    requires audio { AtMark starts.now.mark.pos starts.now.audio }
-    requires sub { AtMark starts.now.mark.pos starts.now.sub }
+    requires at_mark { AreAtMark starts.now }
     requires may { IfSome cache.old.current (λ r. MayAddAll added starts.now cache.old) }
     requires room { vec_len journal.old + 4 ≤ vec_capacity journal.old }
     ensures ok { OnOk result (Begins set added starts.now cache.old journal.old.items cache.new journal.new.items) }

@@ -3,11 +3,11 @@ use Rattle.std.proofs.Common.{◌≡◌, ℕ, true, Option, Some, None, arith, r
 use Rattle.mc_packet.specs.declared.choice.Choice.{Choice}
 use Rattle.mc_packet.specs.declared.choice.Starts.{Starts}
 use Rattle.mc_packet.specs.declared.walk.Mark.{Mark}
-use Rattle.mc_packet.specs.Choices.{is_distinct}
+use Rattle.mc_packet.specs.Choices.{is_distinct, AtMark}
 use Rattle.mc_queue.specs.Places.{weights}
 use Rattle.mc_queue.specs.Queue.{QueueState, IsQueue, IsNew}
 use Rattle.mc_range.specs.declared.queues.Queues.{Queues}
-use Rattle.mc_range.specs.Range.{AtMark, StartsAt, QueueIn, IsRange, place_at}
+use Rattle.mc_range.specs.Range.{StartsAt, QueueIn, IsRange, place_at}
 use Rattle.mc_range.proofs.Places.{lane_upto}
 
 pub new_queue : (track : ℕ) (at : ℕ) (q : QueueState) → IsNew track (place_at at) q → IsQueue q

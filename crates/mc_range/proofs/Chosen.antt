@@ -1,12 +1,12 @@
 -- A range that begins, that gets another set, or a track more: as the definitions over a film's list have it.
 use Rattle.std.proofs.Common.{◌≡◌, ℕ, ◌≤◌, ◌==◌, Bool, true, false, List, [], Option, Some, None, arith, refl, ap, sym, ◌∙◌, inl, inr}
-use Rattle.std.specs.Prelude.{map, if◌then◌else◌, IfSome}
+use Rattle.std.specs.Prelude.{if◌then◌else◌, IfSome}
 use Rattle.std.specs.Option.{option_map}
 use Rattle.std.proofs.lemmas.Bool.{cases_Bool, eqb-true, not-true, and_parts}
 use Rattle.mc_packet.specs.declared.choice.Choice.{Choice}
 use Rattle.mc_packet.specs.declared.choice.Starts.{Starts}
 use Rattle.mc_packet.specs.declared.walk.Mark.{Mark}
-use Rattle.mc_journal.specs.Told.{Told, told}
+use Rattle.mc_packet.specs.declared.packet.Packet.{Packet}
 use Rattle.mc_packet.specs.Choices.{or_else, is_track, is_other, is_distinct}
 use Rattle.mc_journal.specs.Films.{rank, first_lane, track_of}
 use Rattle.mc_journal.specs.Ranges.{Span, in_span}
@@ -21,7 +21,7 @@ use Rattle.mc_range.proofs.Fed.{range_is}
 
 -- a track of one kind is none of another
 pub other_not : (a b : Option ℕ) (k : ℕ) → is_other a b ≡ true → is_track a k ≡ true → is_track b k ≡ false
-other_not None b k o e = absurd (cc)
+other_not None b k o e = absurd cc
 other_not (Some m) None k o e = refl
 other_not (Some m) (Some n) k o e =
     elim (cases_Bool (n == k)) [
@@ -99,17 +99,17 @@ IsBlank q = (q.packets ≡ []) × (rank q.to ≤ rank q.from)
 pub new_blank : (track at : ℕ) (q : QueueState) → IsNew track (place_at at) q → IsBlank q
 new_blank track at q n = let e = n.from_is in let f = n.to_is in (n.none_yet, rw (e, f) (omega arith))
 
-pub blank_held : (ps : List Told) (k : ℕ) (o : Option QueueState) → IfSome o (λ q. (q.track ≡ k) × IsBlank q) → in_span (option_map span_of o) (track_of k ps) ≡ map told (packets_in o)
+pub blank_held : (ps : List Packet) (k : ℕ) (o : Option QueueState) → IfSome o (λ q. (q.track ≡ k) × IsBlank q) → in_span (option_map span_of o) (track_of k ps) ≡ (packets_in o)
 blank_held ps k None h = refl
 blank_held ps k (Some q) h = let e = h.1.0 in rw e (none_within (rank q.from) (rank q.to) (track_of k ps) h.1.1)
 
 begun_blank : (t s : Option ℕ) (o : Option QueueState) → StartsAt t s o → IfSome o IsBlank
 begun_blank t s None h = tt
-begun_blank None s (Some q) h = absurd (cc)
-begun_blank (Some t) None (Some q) h = absurd (cc)
+begun_blank None s (Some q) h = absurd cc
+begun_blank (Some t) None (Some q) h = absurd cc
 begun_blank (Some t) (Some b) (Some q) h = new_blank t b q h
 
-pub begun_film : (ps : List Told) (set : Choice) (starts : Starts) (r : RangeState) → IsBegun set starts r → HoldsFilm ps r
+pub begun_film : (ps : List Packet) (set : Choice) (starts : Starts) (r : RangeState) → IsBegun set starts r → HoldsFilm ps r
 begun_film ps set starts r b = λ k.
     blank_held ps k (queue_of k r.queues) (found IsBlank k r.queues (begun_blank set.video starts.video r.queues.video b.video)
     (begun_blank set.audio starts.audio r.queues.audio b.audio) (begun_blank set.sub starts.sub r.queues.sub b.sub))

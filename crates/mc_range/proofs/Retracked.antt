@@ -1,13 +1,13 @@
 -- A range that gets another set or a track more is what the definitions over a film's list have.
 use Rattle.std.proofs.Common.{◌≡◌, ℕ, ◌==◌, Bool, true, false, ◌&&◌, ◌||◌, List, Option, Some, None, arith, refl, ap, subst, sym, ◌∙◌, inl, inr, ◌⊎◌}
-use Rattle.std.specs.Prelude.{map, min, nat_lt, if◌then◌else◌, IsSomeAnd}
+use Rattle.std.specs.Prelude.{min, nat_lt, if◌then◌else◌, IsSomeAnd}
 use Rattle.std.specs.Option.{option_map}
 use Rattle.std.proofs.lemmas.Bool.{cases_Bool, eqb-true, ltb-true, ltb-false, and_parts}
 use Rattle.mc_packet.specs.declared.choice.Choice.{Choice}
 use Rattle.mc_packet.specs.declared.choice.Kind.{Kind}
 use Rattle.mc_packet.specs.declared.choice.Kind.TheVariants.{Video, Audio, Sub}
 use Rattle.mc_packet.specs.declared.walk.Mark.{Mark}
-use Rattle.mc_journal.specs.Told.{Told, told}
+use Rattle.mc_packet.specs.declared.packet.Packet.{Packet}
 use Rattle.mc_packet.specs.Choices.{or_else, is_track, is_other, is_distinct, has}
 use Rattle.mc_journal.specs.Films.{first_lane, track_of}
 use Rattle.mc_journal.specs.Ranges.{Span, in_span}
@@ -80,14 +80,14 @@ pub kept_ranges : (set : Choice) (r : RangeState) → IsRange r → same_kinds r
 kept_ranges set r i e =
     range_is _ _ _ _ _ _ (λ k. ap (λ (o : Option QueueState). option_map span_of o) (kept_track set r i e k) ∙ span_if (has set k) (queue_of k r.queues)) refl refl
 
-held_if : (b : Bool) (o : Option QueueState) (T : List Told) → in_span (option_map span_of o) T ≡ map told (packets_in o)
-    → in_span (option_map span_of (if b then o else None)) T ≡ map told (packets_in (if b then o else None))
+held_if : (b : Bool) (o : Option QueueState) (T : List Packet) → in_span (option_map span_of o) T ≡ (packets_in o)
+    → in_span (option_map span_of (if b then o else None)) T ≡ (packets_in (if b then o else None))
 held_if true o T h = h
 held_if false o T h = refl
 
-pub kept_film : (ps : List Told) (set : Choice) (r : RangeState) → IsRange r → same_kinds r.set set ≡ true → HoldsFilm ps r → HoldsFilm ps (retracked set r)
+pub kept_film : (ps : List Packet) (set : Choice) (r : RangeState) → IsRange r → same_kinds r.set set ≡ true → HoldsFilm ps r → HoldsFilm ps (retracked set r)
 kept_film ps set r i e h = λ k.
-    subst (λ (o : Option QueueState). in_span (option_map span_of o) (track_of k ps) ≡ map told (packets_in o)) (sym (kept_track set r i e k))
+    subst (λ (o : Option QueueState). in_span (option_map span_of o) (track_of k ps) ≡ (packets_in o)) (sym (kept_track set r i e k))
     (held_if (has set k) (queue_of k r.queues) (track_of k ps) (h k))
 
 -- ---- a track more
@@ -191,23 +191,23 @@ added_ranges kind track start mark old new i j s w a =
     ∙ ap (λ (x : Option Span). or_else x (spans_of old.queues k)) (put_own track start k (queue_under kind new.queues) a.queues.begun ∙ sym (given_is kind track start mark old.set k i.distinct s)))
     (ap (λ (x : Mark). x.pos) a.mark_is ∙ lesser_pos mark old.mark) a.ending_is)
 
-put_held : (track start k : ℕ) (o b : Option QueueState) (T : List Told) → IsSomeAnd o (λ q. IsNew track (place_at start) q) → ((q : QueueState) → own k o ≡ Some q → in_span (option_map span_of (Some q)) T ≡ map told q.packets)
-    → in_span (option_map span_of b) T ≡ map told (packets_in b) → in_span (option_map span_of (or_else (own k o) b)) T ≡ map told (packets_in (or_else (own k o) b))
+put_held : (track start k : ℕ) (o b : Option QueueState) (T : List Packet) → IsSomeAnd o (λ q. IsNew track (place_at start) q) → ((q : QueueState) → own k o ≡ Some q → in_span (option_map span_of (Some q)) T ≡ q.packets)
+    → in_span (option_map span_of b) T ≡ (packets_in b) → in_span (option_map span_of (or_else (own k o) b)) T ≡ (packets_in (or_else (own k o) b))
 put_held track start k None b T h f g = absurd h
 put_held track start k (Some q) b T h f g = elim (cases_Bool (q.track == k)) [
   | inl y ↦ let z : own k (Some q) ≡ Some q = rw y refl in rw y (f q z)
   | inr n ↦ rw n g
 ]
 
-pub added_film : (ps : List Told) (kind : Kind) (track start : ℕ) (mark : Mark) (old new : RangeState) → IsRange new → queue_under kind old.queues ≡ None
+pub added_film : (ps : List Packet) (kind : Kind) (track start : ℕ) (mark : Mark) (old new : RangeState) → IsRange new → queue_under kind old.queues ≡ None
     → IsAdded kind track start mark old new → HoldsFilm ps old → HoldsFilm ps new
 added_film ps kind track start mark old new j w a h = λ k.
-    subst (λ (o : Option QueueState). in_span (option_map span_of o) (track_of k ps) ≡ map told (packets_in o)) (sym (put_track kind track start k old.queues new.queues (all_apart new j) w a.queues))
+    subst (λ (o : Option QueueState). in_span (option_map span_of o) (track_of k ps) ≡ (packets_in o)) (sym (put_track kind track start k old.queues new.queues (all_apart new j) w a.queues))
     (put_held track start k (queue_under kind new.queues) (queue_of k old.queues) (track_of k ps) a.queues.begun
     (λ q e. new_held k (queue_under kind new.queues) q a.queues.begun e) (h k))
   where
     new_held : (k : ℕ) (o : Option QueueState) (q : QueueState) → IsSomeAnd o (λ n. IsNew track (place_at start) n) → own k o ≡ Some q
-        → in_span (option_map span_of (Some q)) (track_of k ps) ≡ map told q.packets
+        → in_span (option_map span_of (Some q)) (track_of k ps) ≡ q.packets
     new_held k None q n e = absurd n
     new_held k (Some p) q n e = elim (cases_Bool (p.track == k)) [
       | inl y ↦

@@ -1,12 +1,11 @@
 -- Lists of packets as a journal tells of them, and parts of them from place to place.
-use Rattle.std.proofs.Common.{◌≡◌, ℕ, ◌<◌, ◌≤◌, ◌==◌, Bool, true, false, ◌&&◌, List, [], ◌∷◌, ◌++◌, Option, ℤ, arith, refl, ap, sym, ◌∙◌, inl, inr}
-use Rattle.std.specs.Prelude.{map, nat_le, nat_lt}
+use Rattle.std.proofs.Common.{◌≡◌, ℕ, ◌<◌, ◌≤◌, ◌==◌, Bool, false, ◌&&◌, List, [], ◌∷◌, ◌++◌, Option, ℤ, arith, refl, ap, sym, ◌∙◌, inl, inr}
+use Rattle.std.specs.Prelude.{nat_le, nat_lt}
 use Rattle.std.specs.List.{filter, find}
 use Rattle.std.specs.Option.{option_map}
 use Rattle.std.proofs.lemmas.Bool.{cases_Bool, cases_lt, leb-true, leb-false, lt-ltb, le-ltb, ne_eqb, true≢false}
 use Rattle.mc_packet.specs.declared.packet.Packet.{Packet}
 use Rattle.mc_packet.specs.declared.packet.Pos.{Pos}
-use Rattle.mc_journal.specs.Told.{Told, told}
 use Rattle.mc_journal.specs.Films.{at, rank, IsRising}
 use Rattle.mc_journal.specs.Ranges.{within}
 use Rattle.mc_journal.specs.Views.{from_place}
@@ -16,18 +15,9 @@ use Rattle.mc_queue.specs.Differences.{time_at}
 use Rattle.mc_queue.specs.Union.{earlier, later}
 use Rattle.mc_queue.proofs.Uniting.{earlier_least, later_greatest}
 
--- ---- a test before the telling or behind it
+-- ---- one test behind another
 
-pub told_kept : (f : Packet → Bool) (g : Told → Bool) → ((p : Packet) → f p ≡ g (told p)) → (ps : List Packet) → map told (filter f ps) ≡ filter g (map told ps)
-told_kept f g h [] = refl
-told_kept f g h (p ∷ ps) =
-    let e = told_kept f g h ps in
-    elim (cases_Bool (f p)) [
-      | inl y ↦ let z : g (told p) ≡ true = sym (h p) ∙ y in rw (y, z) (ap (λ xs. told p ∷ xs) e)
-      | inr n ↦ let z : g (told p) ≡ false = sym (h p) ∙ n in rw (n, z) e
-    ]
-
-pub kept_swap : (f g : Told → Bool) (ps : List Told) → filter f (filter g ps) ≡ filter g (filter f ps)
+pub kept_swap : (f g : Packet → Bool) (ps : List Packet) → filter f (filter g ps) ≡ filter g (filter f ps)
 kept_swap f g [] = refl
 kept_swap f g (p ∷ ps) =
     let e = kept_swap f g ps in
@@ -38,10 +28,10 @@ kept_swap f g (p ∷ ps) =
 
 -- ---- parts
 
-abbrev pub before : ℕ → List Told → List Told
+abbrev pub before : ℕ → List Packet → List Packet
 before cut ps = filter (λ p. nat_lt (at p) cut) ps
 
-pub none_within : (from to : ℕ) (ps : List Told) → to ≤ from → within from to ps ≡ []
+pub none_within : (from to : ℕ) (ps : List Packet) → to ≤ from → within from to ps ≡ []
 none_within from to [] l = refl
 none_within from to (p ∷ ps) l =
     let e = none_within from to ps l in
@@ -50,7 +40,7 @@ none_within from to (p ∷ ps) l =
       | inr m ↦ rw (in_past from to (at p) (omega arith)) e
     ]
 
-before_within : (from to cut : ℕ) (ps : List Told) → cut ≤ to → before cut (within from to ps) ≡ within from cut ps
+before_within : (from to cut : ℕ) (ps : List Packet) → cut ≤ to → before cut (within from to ps) ≡ within from cut ps
 before_within from to cut [] l = refl
 before_within from to cut (p ∷ ps) l =
     let e = before_within from to cut ps l in
@@ -65,7 +55,7 @@ before_within from to cut (p ∷ ps) l =
       ]
     ]
 
-front_part : (a b : Pos) (ps : List Told) → within (rank b) (rank a) ps ≡ within (rank (earlier a b)) (rank a) ps
+front_part : (a b : Pos) (ps : List Packet) → within (rank b) (rank a) ps ≡ within (rank (earlier a b)) (rank a) ps
 front_part a b ps = elim (cases_Bool (nat_le (rank a) (rank b))) [
   | inl y ↦
       let l = leb-true (rank a) (rank b) y in
@@ -73,7 +63,7 @@ front_part a b ps = elim (cases_Bool (nat_le (rank a) (rank b))) [
   | inr n ↦ rw n refl
 ]
 
-pub rear_part : (a b : Pos) (ps : List Told) → within (rank a) (rank b) ps ≡ within (rank a) (rank (later a b)) ps
+pub rear_part : (a b : Pos) (ps : List Packet) → within (rank a) (rank b) ps ≡ within (rank a) (rank (later a b)) ps
 rear_part a b ps = elim (cases_Bool (nat_le (rank a) (rank b))) [
   | inl y ↦ rw y refl
   | inr n ↦
@@ -82,7 +72,7 @@ rear_part a b ps = elim (cases_Bool (nat_le (rank a) (rank b))) [
 ]
 
 -- a part that is read on to a place, which may lie before its end
-pub grown_part : (f t u : Pos) (ps : List Told) → IsRising ps → rank f ≤ rank t
+pub grown_part : (f t u : Pos) (ps : List Packet) → IsRising ps → rank f ≤ rank t
     → within (rank f) (rank t) ps ++ within (rank t) (rank u) ps ≡ within (rank f) (rank (later t u)) ps
 grown_part f t u ps r l =
     let h = later_greatest t u in
@@ -90,7 +80,7 @@ grown_part f t u ps r l =
     ∙ sym (within-split (rank f) (rank t) (rank (later t u)) ps r l h.0)
 
 -- two parts that meet
-pub united_part : (f t g u : Pos) (ps : List Told) → IsRising ps → rank f ≤ rank t → rank f ≤ rank u → rank g ≤ rank t
+pub united_part : (f t g u : Pos) (ps : List Packet) → IsRising ps → rank f ≤ rank t → rank f ≤ rank u → rank g ≤ rank t
     → before (rank f) (within (rank g) (rank u) ps) ++ (within (rank f) (rank t) ps ++ from_place (rank t) (within (rank g) (rank u) ps)) ≡ within (rank (earlier f g)) (rank (later t u)) ps
 united_part f t g u ps r l m n =
     let lo = rank (earlier f g) in
@@ -109,16 +99,16 @@ united_part f t g u ps r l m n =
 
 -- ---- the time at a place
 
-abbrev pub seen_at : ℕ → List Told → Option ℤ
+abbrev pub seen_at : ℕ → List Packet → Option ℤ
 seen_at x ps = option_map (λ p. p.time) (find (λ p. at p == x) ps)
 
-pub seen_told : (x : ℕ) (ps : List Packet) → time_at x ps ≡ seen_at x (map told ps)
-seen_told x [] = refl
-seen_told x (p ∷ ps) =
-    let e = seen_told x ps in
+pub times_seen : (x : ℕ) (ps : List Packet) → time_at x ps ≡ seen_at x ps
+times_seen x [] = refl
+times_seen x (p ∷ ps) =
+    let e = times_seen x ps in
     elim (cases_Bool (rank p.pos == x)) [ inl y ↦ rw y refl | inr n ↦ rw n e ]
 
-pub seen_within : (from to x : ℕ) (ps : List Told) → from ≤ x → x < to → seen_at x (within from to ps) ≡ seen_at x ps
+pub seen_within : (from to x : ℕ) (ps : List Packet) → from ≤ x → x < to → seen_at x (within from to ps) ≡ seen_at x ps
 seen_within from to x [] l m = refl
 seen_within from to x (p ∷ ps) l m =
     let more = seen_within from to x ps l m in

@@ -1,28 +1,27 @@
 -- The bounds of a range, by what its queues hold: the rule over a film's list.
-use Rattle.std.specs.Prelude.{ℕ, Bool, true, false, ◌&&◌, List, map, Option, Some, None, ℤ, is_some}
+use Rattle.std.specs.Prelude.{ℕ, Bool, true, false, ◌&&◌, List, Option, Some, None, ℤ, is_some}
 use Rattle.std.specs.List.{filter}
 use Rattle.mc_packet.specs.declared.packet.Packet.{Packet}
 use Rattle.mc_packet.specs.declared.choice.Choice.{Choice}
 use Rattle.mc_packet.specs.declared.choice.Dir.TheVariants.{Back}
-use Rattle.mc_journal.specs.Told.{Told, told}
 use Rattle.mc_packet.specs.Choices.{lead_of}
 use Rattle.mc_journal.specs.Ranges.{bounds_by}
 use Rattle.mc_queue.specs.Queue.{QueueState}
 use Rattle.mc_queue.specs.Times.{is_wanted}
 use Rattle.mc_range.specs.declared.queues.Queues.{Queues}
 use Rattle.mc_range.specs.Range.{RangeState, queue_of}
-use Rattle.mc_range.specs.Serving.{heads_in, packets_in, told_syncs}
+use Rattle.mc_range.specs.Serving.{heads_in, packets_in, sync_points}
 
 -- the queues serve a seek of their set back to a time
 abbrev pub serves_time : Queues → Bool → Choice → ℤ → Bool
 serves_time qs ended set t = is_some (heads_in qs ended set t Back)
 
 -- of these packets the sync points to whose times they do
-abbrev pub points_of : (ℤ → Bool) → List Packet → List Told
-points_of test ps = filter (λ p. test p.time) (told_syncs ps)
+abbrev pub points_of : (ℤ → Bool) → List Packet → List Packet
+points_of test ps = filter (λ p. test p.time) (sync_points ps)
 
 abbrev pub bounds_in : (ℤ → Bool) → Bool → List Packet → Option (ℤ × ℤ)
-bounds_in test ended ps = bounds_by (points_of test ps) (map told ps) ended
+bounds_in test ended ps = bounds_by (points_of test ps) (ps) ended
 
 -- the lead's queue
 abbrev pub lead_queue : Queues → Option ℕ → Option QueueState

@@ -1,5 +1,5 @@
 -- Ranges of a film's list: a part of the film that is fed, the start of one track, and sets that agree about kinds.
-use Rattle.std.specs.Prelude.{◌≡◌, ◌<◌, ℕ, Bool, ◌&&◌, List, map, Option, Some, None, IfSome}
+use Rattle.std.specs.Prelude.{◌≡◌, ◌<◌, ℕ, Bool, ◌&&◌, List, Option, Some, None, IfSome}
 use Rattle.std.specs.Option.{option_map}
 use Rattle.mc_packet.specs.declared.packet.Pos.{Pos}
 use Rattle.mc_packet.specs.declared.cache.Heads.{Heads}
@@ -10,15 +10,15 @@ use Rattle.mc_packet.specs.declared.choice.Kind.TheVariants.{Video, Audio, Sub}
 use Rattle.mc_packet.specs.declared.choice.Starts.{Starts}
 use Rattle.mc_packet.specs.declared.walk.Chunk.{Chunk}
 use Rattle.mc_packet.specs.declared.walk.Mark.{Mark}
-use Rattle.mc_journal.specs.Told.{Told, told}
+use Rattle.mc_packet.specs.declared.packet.Packet.{Packet}
 use Rattle.mc_packet.specs.Choices.{is_other}
 use Rattle.mc_journal.specs.Films.{first_lane, rank}
 use Rattle.mc_journal.specs.Ranges.{within}
 use Rattle.mc_range.specs.Cutting.{bound_under}
 
 -- the packets of a chunk are the film's between its marks
-abbrev pub IsPart : List Told → Chunk → Type 0
-IsPart ps c = map told c.packets ≡ within (first_lane c.from.pos) (first_lane c.to.pos) ps
+abbrev pub IsPart : List Packet → Chunk → Type 0
+IsPart ps c = c.packets ≡ within (first_lane c.from.pos) (first_lane c.to.pos) ps
 
 -- each selected track's bound is that of its kind
 pub record AreBounds (set : Choice) (upto : ℕ → Option ℕ) (heads : Option Heads) : Type 0 where

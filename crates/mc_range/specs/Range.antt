@@ -1,5 +1,5 @@
 -- A range as contracts see it: the queues of the selected tracks, and how it begins and touches another.
-use Rattle.std.specs.Prelude.{◌≡◌, ◌≤◌, ℕ, ◌+◌, ◌==◌, Bool, true, false, ◌&&◌, if◌then◌else◌, length, Option, Some, None, IsSomeAnd, IfSome, ⊤}
+use Rattle.std.specs.Prelude.{◌≡◌, ◌≤◌, ℕ, ◌+◌, ◌==◌, Bool, true, false, ◌&&◌, if◌then◌else◌, length, Option, Some, None, IsSomeAnd, ⊤}
 use Rattle.std.specs.Option.{option_map}
 use Rattle.mc_packet.specs.declared.packet.Pos.{Pos}
 use Rattle.mc_packet.specs.declared.choice.Choice.{Choice}
@@ -20,6 +20,9 @@ pub record RangeState : Type 0 where
   pub queues : Queues
   pub mark : Mark
   pub ending : Option Ending
+
+abbrev pub range_of : Choice → Queues → Mark → Option Ending → RangeState
+range_of set queues mark ending = record { set = set; queues = queues; mark = mark; ending = ending }
 
 -- the place of frame 0 of a block
 abbrev pub place_at : ℕ → Pos
@@ -66,10 +69,6 @@ abbrev pub weight_of_all : Queues → ℕ
 weight_of_all qs = weight_in qs.video + (weight_in qs.audio + weight_in qs.sub)
 
 -- ---- a new range
-
--- a start is at the mark or behind it
-abbrev pub AtMark : ℕ → Option ℕ → Type 0
-AtMark mark start = IfSome start (λ at. mark ≤ at)
 
 -- a selected track with a start has an empty queue there, another none
 abbrev pub StartsAt : Option ℕ → Option ℕ → Option QueueState → Type 0

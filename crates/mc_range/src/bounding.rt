@@ -44,7 +44,8 @@ fn first_served(queues: &Queues, ended: bool, set: Choice, queue: &Queue, dir: D
 
 /// The time at which the bounds end: with the film's ending the greatest of all packets.
 fn last_time(queues: &Queues, ended: bool, set: Choice, queue: &Queue) -> Option<i64>
-    ensures { IsNearest Back (is_last ended (serves_time queues.now ended set)) queue.now.packets result }
+    ensures { IsNearest Back (is_last ended (serves_time queues.now ended set))
+        queue.now.packets result }
 {
     if ended {
         queue.greatest_time()
@@ -74,7 +75,9 @@ fn lead_queue(queues: &Queues, set: Choice) -> Option<&Queue>
 
 /// The times of the lead between which the queues serve a seek back.
 pub(crate) fn bounds(queues: &Queues, ended: bool, set: Choice) -> Option<(i64, i64)>
-    ensures { result ≡ bounds_in (serves_time queues.now ended set) ended (packets_in (lead_queue queues.now (lead_of set))) }
+    ensures { result
+        ≡ bounds_in (serves_time queues.now ended set) ended
+        (packets_in (lead_queue queues.now (lead_of set))) }
 {
     match lead_queue(queues, set) {
         Some(queue) => bounds_by(queues, ended, set, queue),

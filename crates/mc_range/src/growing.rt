@@ -55,7 +55,8 @@ fn feed(queue: &mut Queue, upto: Pos, mut packets: Packets) -> Result<Option<Tra
     requires fits { weights queue.old.packets + weights packets < 2 ^ 64 }
     ensures ok { OnOk result (Extends upto packets queue.old queue.new) }
     ensures taken { IfOk result (λ x. x ≡ track_with queue.old.track (news packets queue.old)) }
-    ensures err { OnErr result ((queue.new ≡ queue.old) × (queue.old.spare < length (news packets queue.old))) }
+    ensures err { OnErr result ((queue.new ≡ queue.old)
+        × (queue.old.spare < length (news packets queue.old))) }
     ensures queue { IsQueue queue.new }
 {
     let to = queue.to();
@@ -119,10 +120,12 @@ fn extend_one(
     requires third { IsForeign packets third.old }
     requires fits { weight_in own.old + weights packets < 2 ^ 64 }
     ensures own { OnOk result (ExtendsIn upto packets own.old own.new × IsSound own.new) }
-    ensures second { OnOk result (ExtendsIn upto packets second.old second.new × IsSound second.new) }
+    ensures second { OnOk result
+        (ExtendsIn upto packets second.old second.new × IsSound second.new) }
     ensures third { OnOk result (ExtendsIn upto packets third.old third.new × IsSound third.new) }
     ensures taken { IfOk result (λ x. x ≡ takes packets own.old) }
-    ensures err { OnErr result ((own.new ≡ own.old) × (second.new ≡ second.old) × (third.new ≡ third.old)) }
+    ensures err { OnErr result ((own.new ≡ own.old) × (second.new ≡ second.old)
+        × (third.new ≡ third.old)) }
     ensures lacks { OnErr result (lacks packets own.old ≡ true) }
 {
     let taken = feed_in(own, upto, packets)?;

@@ -1,6 +1,6 @@
 ghost use Rattle.std.specs.Prelude.{◌≡◌, Some, None, nat_lt, if◌then◌else◌, ◌≤◌, ◌<◌, ◌+◌, ◌^◌, true, IfOk, IfSome, IfErr, IsSomeAnd, OnErr, OnOk};
-ghost use Rattle.mc_packet.specs.Choices.{is_distinct, or_else};
-ghost use Rattle.mc_range.specs.Range.{AtMark, IsBegun, IsRange, IsRoomier, count, is_same, is_same_set, meets_range, queue_of, weight_of_all};
+ghost use Rattle.mc_packet.specs.Choices.{is_distinct, or_else, AreAtMark};
+ghost use Rattle.mc_range.specs.Range.{IsBegun, IsRange, IsRoomier, count, is_same, is_same_set, meets_range, queue_of, weight_of_all};
 ghost use Rattle.mc_range.specs.Growing.{IsFed, lacks_room, taker};
 ghost use Rattle.mc_range.specs.Serving.{first_from, heads_of};
 ghost use Rattle.mc_range.specs.Cutting.{IsCut, weight_from};
@@ -46,13 +46,13 @@ pub struct Range {
 }
 
 impl Model for Range {
-    ghost use Rattle.mc_range.specs.Range.{RangeState, IsRange};
+    ghost use Rattle.mc_range.specs.Range.{RangeState, IsRange, range_of};
 
     ghost Value = { RangeState };
 
-    ghost view = { λ r. record { set = r.set; queues = r.queues; mark = r.mark; ending = r.ending } };
+    ghost view = { λ r. range_of r.set r.queues r.mark r.ending };
 
-    ghost invariant = { λ r. IsRange (record { set = r.set; queues = r.queues; mark = r.mark; ending = r.ending }) };
+    ghost invariant = { λ r. IsRange (range_of r.set r.queues r.mark r.ending) };
 }
 
 impl Range {
@@ -60,9 +60,7 @@ impl Range {
     /// track without a start has no queue.
     pub fn new(alloc: Global, set: Choice, starts: &Starts) -> Range
         requires distinct { is_distinct set ≡ true }
-        requires video { AtMark starts.now.mark.pos starts.now.video }
-        requires audio { AtMark starts.now.mark.pos starts.now.audio }
-        requires sub { AtMark starts.now.mark.pos starts.now.sub }
+        requires at_mark { AreAtMark starts.now }
         ensures value { IsBegun set starts.now result }
         ensures range { IsRange result }
     {
@@ -157,7 +155,8 @@ impl Range {
         ensures same { IsRoomier self.old self.new }
         ensures ok { OnOk result (IfSome (queue_of track self.new.queues) (λ q. more ≤ q.spare)) }
         ensures err { OnErr result (self.new ≡ self.old) }
-        ensures within { OnErr result (IsSomeAnd (queue_of track self.old.queues) (λ q. q.spare < more)) }
+        ensures within { OnErr result (IsSomeAnd (queue_of track self.old.queues) (λ q. q.spare
+            < more)) }
         ensures range { IsRange self.new }
     {
         reserve(&mut self.queues, track, more)
@@ -174,7 +173,8 @@ impl Range {
         requires fits { weight_of_all self.old.queues + weights chunk.packets < 2 ^ 64 }
         ensures ok { OnOk result (IsFed chunk self.old self.new) }
         ensures taken { IfOk result (λ track. track ≡ taker chunk.packets self.old.queues) }
-        ensures err { OnErr result ((self.new ≡ self.old) × (lacks_room chunk.packets self.old.queues ≡ true)) }
+        ensures err { OnErr result ((self.new ≡ self.old)
+            × (lacks_room chunk.packets self.old.queues ≡ true)) }
         ensures range { IsRange self.new }
     {
         let Chunk {
@@ -345,7 +345,8 @@ fn greater(a: Mark, b: Mark) -> Mark
 }
 
 fn joined_ending(own: (Mark, Option<Ending>), other: (Mark, Option<Ending>)) -> Option<Ending>
-    ensures { result ≡ (if nat_lt own.0.pos other.0.pos then or_else other.1 own.1 else or_else own.1 other.1) }
+    ensures { result
+        ≡ (if nat_lt own.0.pos other.0.pos then or_else other.1 own.1 else or_else own.1 other.1) }
 {
     if own.0.pos < other.0.pos {
         later_ending(other.1, own.1)

@@ -1,13 +1,13 @@
 ghost use Rattle.std.specs.Prelude.{◌≡◌, ◌==◌, nat_le, ◌&&◌, if◌then◌else◌, is_some};
 ghost use Rattle.std.specs.Option.{option_copied, option_map};
-ghost use Rattle.mc_journal.specs.Told.{told};
+ghost use Rattle.mc_packet.specs.declared.packet.Packet.{Packet};
 ghost use Rattle.mc_packet.specs.Choices.{lead_of, passes};
 ghost use Rattle.mc_journal.specs.Films.{audio_dir, audio_sync, block_of, first, first_from, first_lane, last, last_upto, least_of, rank, sync_for, time_or, track_sync, video_sync};
 ghost use Rattle.mc_journal.specs.Ranges.{any_below, any_from, served};
 ghost use Rattle.mc_queue.specs.Queue.{IsQueue};
 ghost use Rattle.mc_packet.specs.declared.choice.Dir.TheVariants.{Back, Forward};
 ghost use Rattle.mc_range.specs.Range.{spans_of};
-ghost use Rattle.mc_range.specs.Serving.{at_place, back_by, forward_by, head_at, heads_in, serves_sub, serves_track, syncs_of, told_syncs};
+ghost use Rattle.mc_range.specs.Serving.{at_place, head_at, heads_in, serves_back, serves_forward, serves_sub, serves_track, syncs_of, sync_points};
 
 use crate::place::{first_lane, is_start, place_at};
 use crate::queues::{Queues, find};
@@ -27,7 +27,7 @@ fn at_place(queue: &Queue, place: Option<Pos>) -> Option<&Packet>
 
 #[tactic(auto, using(crate::proofs::Found::last_upto_is))]
 fn last_upto(queue: &Queue, t: i64) -> Option<&Packet>
-    ensures { option_map told (option_copied result) ≡ last_upto t (told_syncs queue.now.packets) }
+    ensures { option_copied result ≡ last_upto t (sync_points queue.now.packets) }
 {
     let _end = queue.to();
     at_place(queue, queue.last_sync_upto(t))
@@ -35,7 +35,7 @@ fn last_upto(queue: &Queue, t: i64) -> Option<&Packet>
 
 #[tactic(auto, using(crate::proofs::Found::first_is))]
 fn first(queue: &Queue) -> Option<&Packet>
-    ensures { option_map told (option_copied result) ≡ first (told_syncs queue.now.packets) }
+    ensures { option_copied result ≡ first (sync_points queue.now.packets) }
 {
     let _end = queue.to();
     at_place(queue, queue.first_sync())
@@ -43,7 +43,7 @@ fn first(queue: &Queue) -> Option<&Packet>
 
 #[tactic(auto, using(crate::proofs::Found::first_from_is))]
 fn first_from(queue: &Queue, t: i64) -> Option<&Packet>
-    ensures { option_map told (option_copied result) ≡ first_from t (told_syncs queue.now.packets) }
+    ensures { option_copied result ≡ first_from t (sync_points queue.now.packets) }
 {
     let _end = queue.to();
     at_place(queue, queue.first_sync_from(t))
@@ -51,7 +51,7 @@ fn first_from(queue: &Queue, t: i64) -> Option<&Packet>
 
 #[tactic(auto, using(crate::proofs::Found::last_is))]
 fn last(queue: &Queue) -> Option<&Packet>
-    ensures { option_map told (option_copied result) ≡ last (told_syncs queue.now.packets) }
+    ensures { option_copied result ≡ last (sync_points queue.now.packets) }
 {
     let _end = queue.to();
     at_place(queue, queue.last_sync())
@@ -59,14 +59,14 @@ fn last(queue: &Queue) -> Option<&Packet>
 
 #[tactic(auto, using(crate::proofs::Found::any_from_is))]
 fn any_from(queue: &Queue, t: i64) -> bool
-    ensures { result ≡ any_from t (told_syncs queue.now.packets) }
+    ensures { result ≡ any_from t (sync_points queue.now.packets) }
 {
     queue.has_sync_from(t)
 }
 
 #[tactic(auto, using(crate::proofs::Found::any_below_is))]
 fn any_below(queue: &Queue, t: i64) -> bool
-    ensures { result ≡ any_below t (told_syncs queue.now.packets) }
+    ensures { result ≡ any_below t (sync_points queue.now.packets) }
 {
     queue.has_sync_before(t)
 }
@@ -80,7 +80,7 @@ fn begins(queue: &Queue) -> bool
 // ---- what a queue serves
 
 fn sync_back(queue: &Queue, t: i64) -> Option<&Packet>
-    ensures { option_map told (option_copied result) ≡ sync_for Back t (told_syncs queue.now.packets) }
+    ensures { option_copied result ≡ sync_for Back t (sync_points queue.now.packets) }
 {
     match last_upto(queue, t) {
         Some(packet) => Some(packet),
@@ -89,7 +89,7 @@ fn sync_back(queue: &Queue, t: i64) -> Option<&Packet>
 }
 
 fn sync_forward(queue: &Queue, t: i64) -> Option<&Packet>
-    ensures { option_map told (option_copied result) ≡ sync_for Forward t (told_syncs queue.now.packets) }
+    ensures { option_copied result ≡ sync_for Forward t (sync_points queue.now.packets) }
 {
     match first_from(queue, t) {
         Some(packet) => Some(packet),
@@ -99,7 +99,7 @@ fn sync_forward(queue: &Queue, t: i64) -> Option<&Packet>
 
 /// The sync point that a seek to `t` asks for.
 fn sync_for(queue: &Queue, dir: Dir, t: i64) -> Option<&Packet>
-    ensures { option_map told (option_copied result) ≡ sync_for dir t (told_syncs queue.now.packets) }
+    ensures { option_copied result ≡ sync_for dir t (sync_points queue.now.packets) }
 {
     match dir {
         Dir::Back => sync_back(queue, t),
@@ -111,7 +111,7 @@ fn sync_for(queue: &Queue, dir: Dir, t: i64) -> Option<&Packet>
 /// the film's: one at or behind `t` is there too, or the ending; and where it lies past `t`, nothing
 /// lies before the queue.
 fn served_back(queue: &Queue, ended: bool, t: i64, sync: Option<&Packet>) -> bool
-    ensures { result ≡ back_by (rank queue.now.from == 0) ended (any_from t (told_syncs queue.now.packets)) t (option_map told (option_copied sync.entry)) }
+    ensures { result ≡ serves_back queue.now ended t (option_copied sync.entry) }
 {
     match sync {
         Some(packet) => if packet.time <= t {
@@ -126,7 +126,7 @@ fn served_back(queue: &Queue, ended: bool, t: i64, sync: Option<&Packet>) -> boo
 /// The same of a seek forward: it stands at `t`, or one below `t` is there too, or nothing lies
 /// before the queue; and where it lies before `t`, the ending is there.
 fn served_forward(queue: &Queue, ended: bool, t: i64, sync: Option<&Packet>) -> bool
-    ensures { result ≡ forward_by (rank queue.now.from == 0) ended (any_below t (told_syncs queue.now.packets)) t (option_map told (option_copied sync.entry)) }
+    ensures { result ≡ serves_forward queue.now ended t (option_copied sync.entry) }
 {
     match sync {
         Some(packet) => if t <= packet.time {
@@ -142,8 +142,8 @@ fn served_forward(queue: &Queue, ended: bool, t: i64, sync: Option<&Packet>) -> 
 /// for, where that is the one it has for it.
 #[tactic(auto, using(crate::proofs::Shown::back_is, crate::proofs::Shown::forward_is))]
 fn served(queue: &Queue, dir: Dir, ended: bool, t: i64, sync: Option<&Packet>) -> bool
-    requires { option_map told (option_copied sync) ≡ sync_for dir t (told_syncs queue.now.packets) }
-    ensures { result ≡ served dir (rank queue.now.from) ended t (told_syncs queue.now.packets) }
+    requires { option_copied sync ≡ sync_for dir t (sync_points queue.now.packets) }
+    ensures { result ≡ served dir (rank queue.now.from) ended t (sync_points queue.now.packets) }
 {
     match dir {
         Dir::Back => served_back(queue, ended, t, sync),
@@ -162,8 +162,9 @@ fn serves_track(
     track: Option<TrackNo>,
     sync: Option<&Packet>,
 ) -> bool
-    requires { option_map told (option_copied sync) ≡ track_sync (syncs_of queues.now) dir t track }
-    ensures { result ≡ passes track (serves_track (spans_of queues.now) ended (syncs_of queues.now) dir t) }
+    requires { option_copied sync ≡ track_sync (syncs_of queues.now) dir t track }
+    ensures { result
+        ≡ passes track (serves_track (spans_of queues.now) ended (syncs_of queues.now) dir t) }
 {
     let Some(track) = track else {
         return true;
@@ -175,7 +176,9 @@ fn serves_track(
 }
 
 fn holds_place(queue: &Queue, led: bool, block: u64) -> bool
-    ensures { result ≡ (if led then nat_le (rank queue.now.from) (first_lane block) && nat_le (first_lane block) (rank queue.now.to) else rank queue.now.from == 0) }
+    ensures { result
+        ≡ (if led then nat_le (rank queue.now.from) (first_lane block)
+        && nat_le (first_lane block) (rank queue.now.to) else rank queue.now.from == 0) }
 {
     if led {
         let place = first_lane(block);
@@ -205,7 +208,7 @@ fn has_lead(set: Choice) -> bool
 
 #[tactic(auto, using(crate::proofs::Found::no_sync))]
 fn track_sync(queues: &Queues, dir: Dir, t: i64, track: Option<TrackNo>) -> Option<&Packet>
-    ensures { option_map told (option_copied result) ≡ track_sync (syncs_of queues.now) dir t track }
+    ensures { option_copied result ≡ track_sync (syncs_of queues.now) dir t track }
 {
     let Some(track) = track else {
         return None;
@@ -217,7 +220,7 @@ fn track_sync(queues: &Queues, dir: Dir, t: i64, track: Option<TrackNo>) -> Opti
 }
 
 fn block_of(packet: Option<&Packet>) -> u64
-    ensures { result ≡ block_of (option_map told (option_copied packet.entry)) }
+    ensures { result ≡ block_of (option_copied packet.entry) }
 {
     match packet {
         Some(packet) => packet.pos.block,
@@ -226,7 +229,7 @@ fn block_of(packet: Option<&Packet>) -> u64
 }
 
 fn time_or(t: i64, packet: Option<&Packet>) -> i64
-    ensures { result ≡ time_or t (option_map told (option_copied packet.entry)) }
+    ensures { result ≡ time_or t (option_copied packet.entry) }
 {
     match packet {
         Some(packet) => packet.time,

@@ -9,7 +9,7 @@ use Rattle.mc_packet.specs.declared.choice.Kind.TheVariants.{Video, Audio, Sub}
 use Rattle.mc_packet.specs.declared.choice.Starts.{Starts}
 use Rattle.mc_packet.specs.declared.walk.Ending.{Ending}
 use Rattle.mc_packet.specs.declared.walk.Mark.{Mark}
-use Rattle.mc_journal.specs.Told.{Told}
+use Rattle.mc_packet.specs.declared.packet.Packet.{Packet}
 use Rattle.mc_packet.specs.Choices.{is_track, or_else}
 use Rattle.mc_journal.specs.Films.{first_lane}
 use Rattle.mc_journal.specs.Ranges.{Range, Span}
@@ -26,7 +26,7 @@ use Rattle.mc_cache.specs.Placed.{AddsStart, AddsStarts}
 
 -- ---- one kind
 
-one_stand : (ps : List Told) (set : Choice) (kind : Kind) (track start : ℕ) (mark : Mark) (o n : Option RangeState) (rs : List Range) → IfSome o IsRange → IfSome n IsRange → IfSome o (HoldsIn ps set)
+one_stand : (ps : List Packet) (set : Choice) (kind : Kind) (track start : ℕ) (mark : Mark) (o n : Option RangeState) (rs : List Range) → IfSome o IsRange → IfSome n IsRange → IfSome o (HoldsIn ps set)
     → IsSomeAnd o (λ r. (selected_under kind r.set ≡ Some track) × (queue_under kind r.queues ≡ None)) → IsSomeAnd o (λ r. IsSomeAnd n (λ q. IsAdded kind track start mark r q))
     → (let s : Stand = record { current = option_map as_range n; others = rs } in s) ≡ found set (start_only kind start mark) (record { current = option_map as_range o; others = rs })
 one_stand ps set kind track start mark None n rs i j h m a = absurd m
@@ -35,20 +35,20 @@ one_stand ps set kind track start mark (Some r) (Some q) rs i j h m a =
     ap (λ (x : Range). let s : Stand = record { current = Some x; others = rs } in s)
     (added_ranges kind track start mark r q i j m.0 m.1 a ∙ ap (λ (s : Choice). add_spans s (start_only kind start mark) (as_range r)) h.set_is)
 
-one_film : (ps : List Told) (set : Choice) (kind : Kind) (track start : ℕ) (mark : Mark) (o n : Option RangeState) → IfSome n IsRange → IfSome o (HoldsIn ps set)
+one_film : (ps : List Packet) (set : Choice) (kind : Kind) (track start : ℕ) (mark : Mark) (o n : Option RangeState) → IfSome n IsRange → IfSome o (HoldsIn ps set)
     → IsSomeAnd o (λ r. (selected_under kind r.set ≡ Some track) × (queue_under kind r.queues ≡ None)) → IsSomeAnd o (λ r. IsSomeAnd n (λ q. IsAdded kind track start mark r q))
     → IfSome n (HoldsIn ps set)
 one_film ps set kind track start mark None n j h m a = absurd m
 one_film ps set kind track start mark (Some r) None j h m a = absurd a
 one_film ps set kind track start mark (Some r) (Some q) j h m a = record { film = added_film ps kind track start mark r q j m.1 a h.film; set_is = a.set_is ∙ h.set_is }
 
-pub added_stand : (ps : List Told) (set : Choice) (kind : Kind) (track start : ℕ) (mark : Mark) (old new : CacheState) → IsCache old → IsCache new → HoldsAll ps set old
+pub added_stand : (ps : List Packet) (set : Choice) (kind : Kind) (track start : ℕ) (mark : Mark) (old new : CacheState) → IsCache old → IsCache new → HoldsAll ps set old
     → MayAdd kind track old → AddsTrack kind track start mark old new → stand_of new ≡ found set (start_only kind start mark) (stand_of old)
 added_stand ps set kind track start mark old new i j h m a =
     ap (λ (rs : List RangeState). let s : Stand = record { current = option_map as_range new.current; others = map as_range rs } in s) a.others_is
     ∙ one_stand ps set kind track start mark old.current new.current (map as_range old.others) i.current j.current h.current m a.current
 
-pub added_holds : (ps : List Told) (set : Choice) (kind : Kind) (track start : ℕ) (mark : Mark) (old new : CacheState) → IsCache new → HoldsAll ps set old
+pub added_holds : (ps : List Packet) (set : Choice) (kind : Kind) (track start : ℕ) (mark : Mark) (old new : CacheState) → IsCache new → HoldsAll ps set old
     → MayAdd kind track old → AddsTrack kind track start mark old new → HoldsAll ps set new
 added_holds ps set kind track start mark old new j h m a =
     let o = a.others_is in
@@ -139,12 +139,12 @@ has_current set None (Some a) s m old x y new f g h e = subst (λ (c : CacheStat
 has_current set None None (Some s) m old x y new f g h e = subst (λ (c : CacheState). is_some c.current ≡ true) (g ∙ f) (current_some Sub set s m y new h)
 has_current set None None None m old x y new f g h e = absurd (cc)
 
-record Added (ps : List Told) (set : Choice) (kind : Kind) (start : Option ℕ) (mark : Mark) (old new : CacheState) : Type 0 where
+record Added (ps : List Packet) (set : Choice) (kind : Kind) (start : Option ℕ) (mark : Mark) (old new : CacheState) : Type 0 where
   cache : IsCache new
   film : HoldsAll ps set new
   stand : stand_of new ≡ after_start kind set start mark (stand_of old)
 
-step : (ps : List Told) (set : Choice) (kind : Kind) (start : Option ℕ) (mark : Mark) (old new : CacheState) → IsCache old → HoldsAll ps set old → AddsStart kind set start mark old new
+step : (ps : List Packet) (set : Choice) (kind : Kind) (start : Option ℕ) (mark : Mark) (old new : CacheState) → IsCache old → HoldsAll ps set old → AddsStart kind set start mark old new
     → Added ps set kind start mark old new
 step ps set kind None mark old new i h a = record {
   cache = subst (λ (c : CacheState). IsCache c) (sym a) i;
@@ -165,7 +165,7 @@ there_some : (c : Option RangeState) → is_some c ≡ true → is_some (option_
 there_some None e = e
 there_some (Some r) e = refl
 
-pub starts_stand : (ps : List Told) (set : Choice) (starts : Starts) (old new : CacheState) → IsCache old → HoldsAll ps set old
+pub starts_stand : (ps : List Packet) (set : Choice) (starts : Starts) (old new : CacheState) → IsCache old → HoldsAll ps set old
     → is_some (or_else starts.video (or_else starts.audio starts.sub)) ≡ true → AddsStarts set starts old new → stand_of new ≡ found set starts (stand_of old)
 starts_stand ps set starts old new i h e a =
     let x = step ps set Video starts.video starts.mark old a.with_video i h a.video in
@@ -177,7 +177,7 @@ starts_stand ps set starts old new i h e a =
     ∙ ap (λ s. after_start Sub set starts.sub starts.mark (after_start Audio set starts.audio starts.mark s)) x.stand
     ∙ chain_on set starts (option_map as_range old.current) (map as_range old.others) e (there_some old.current c)
 
-pub starts_holds : (ps : List Told) (set : Choice) (starts : Starts) (old new : CacheState) → IsCache old → HoldsAll ps set old → AddsStarts set starts old new → HoldsAll ps set new
+pub starts_holds : (ps : List Packet) (set : Choice) (starts : Starts) (old new : CacheState) → IsCache old → HoldsAll ps set old → AddsStarts set starts old new → HoldsAll ps set new
 starts_holds ps set starts old new i h a =
     let x = step ps set Video starts.video starts.mark old a.with_video i h a.video in
     let y = step ps set Audio starts.audio starts.mark a.with_video a.with_audio x.cache x.film a.audio in

@@ -8,7 +8,7 @@ use Rattle.mc_packet.specs.declared.packet.Pos.{Pos}
 use Rattle.mc_packet.specs.declared.cache.Heads.{Heads}
 use Rattle.mc_packet.specs.declared.choice.Choice.{Choice}
 use Rattle.mc_journal.specs.declared.record.Removal.{Removal}
-use Rattle.mc_journal.specs.Told.{Told}
+use Rattle.mc_packet.specs.declared.packet.Packet.{Packet}
 use Rattle.mc_packet.specs.Choices.{is_distinct}
 use Rattle.mc_journal.specs.Films.{rank}
 use Rattle.mc_journal.specs.Ranges.{Range, Span}
@@ -39,13 +39,13 @@ no_bounds set = record { video = of_none set.video; audio = of_none set.audio; s
     of_none None = tt
     of_none (Some k) = refl
 
-pub record LastCut (ps : List Told) (set : Choice) (places : ℕ → ℕ) (place : ℕ) (current : Option Range) (track from to : ℕ) (r : RangeState) (rs new : List RangeState) : Type 0 where
+pub record LastCut (ps : List Packet) (set : Choice) (places : ℕ → ℕ) (place : ℕ) (current : Option Range) (track from to : ℕ) (r : RangeState) (rs new : List RangeState) : Type 0 where
   pub cuts : used.CutsIn ps set places track from to current (as_range r ∷ map as_range rs)
   pub may : MayCut track from to place current (as_range r ∷ map as_range rs)
   pub others_are : filter (holds_any ps set) (cut_last track to (as_range r) (map as_range rs)) ≡ map as_range new
   pub held_all : AllByRecursion (HoldsIn ps set) new
 
-kept_cut : (ps : List Told) (set : Choice) (r : Range) (q : RangeState) (new : List RangeState) → r ≡ as_range q → holds_any ps set (as_range q) ≡ holds q → HoldsIn ps set q
+kept_cut : (ps : List Packet) (set : Choice) (r : Range) (q : RangeState) (new : List RangeState) → r ≡ as_range q → holds_any ps set (as_range q) ≡ holds q → HoldsIn ps set q
     → new ≡ (if holds q then q ∷ [] else []) → (filter (holds_any ps set) (r ∷ []) ≡ map as_range new) × AllByRecursion (HoldsIn ps set) new
 kept_cut ps set r q new e same all is = elim (cases_Bool (holds q)) [
   | inl y ↦
@@ -60,7 +60,7 @@ kept_cut ps set r q new e same all is = elim (cases_Bool (holds q)) [
       (ap (λ (x : Range). filter (holds_any ps set) (x ∷ [])) e ∙ k ∙ sym (ap (λ (xs : List RangeState). map as_range xs) n), subst (λ (xs : List RangeState). AllByRecursion (HoldsIn ps set) xs) (sym n) tt)
 ]
 
-last_cut : (ps : List Told) (set : Choice) (places : ℕ → ℕ) (place : ℕ) (current : Option Range) (r : RangeState) (rs new : List RangeState) (c : Cut)
+last_cut : (ps : List Packet) (set : Choice) (places : ℕ → ℕ) (place : ℕ) (current : Option Range) (r : RangeState) (rs new : List RangeState) (c : Cut)
     → AllByRecursion IsOther (r ∷ rs) → AllByRecursion (HoldsIn ps set) (r ∷ rs) → CutsLast (r ∷ rs) new c
     → LastCut ps set places place current c.track (rank c.from) (rank c.to) r rs new
 last_cut ps set places place current r [] new c i h x =
@@ -110,13 +110,13 @@ at_head None hd n h = tt
 at_head (Some q) None n h = absurd h
 at_head (Some q) (Some p) n h = ap (λ x. Some x) h
 
-pub record CurrentCut (ps : List Told) (set : Choice) (heads : Heads) (track from to : ℕ) (r q : RangeState) : Type 0 where
+pub record CurrentCut (ps : List Packet) (set : Choice) (heads : Heads) (track from to : ℕ) (r q : RangeState) : Type 0 where
   pub cut : used.IsCut ps set (λ k. option_map rank (head_of set heads k)) track from to (as_range r)
   pub onward : from ≤ to
   pub range_is : cut_range track to (as_range r) ≡ as_range q
   pub film : HoldsIn ps set q
 
-current_cut : (ps : List Told) (set : Choice) (heads : Heads) (r q : RangeState) (c : Cut) → IsRange r → HoldsIn ps set r → IsCut (Some heads) r q (Some c)
+current_cut : (ps : List Packet) (set : Choice) (heads : Heads) (r q : RangeState) (c : Cut) → IsRange r → HoldsIn ps set r → IsCut (Some heads) r q (Some c)
     → CurrentCut ps set heads c.track (rank c.from) (rank c.to) r q
 current_cut ps set heads r q c i h x =
     let e = h.set_is in
@@ -132,14 +132,14 @@ current_cut ps set heads r q c i h x =
     }
 
 -- where the heads are at their places, the cut is the one up to these
-placed_cut : (ps : List Told) (set : Choice) (heads : Heads) (place : ℕ → ℕ) (r : RangeState) (track from to : ℕ) → HoldsIn ps set r → HeadsAt set heads place r
+placed_cut : (ps : List Packet) (set : Choice) (heads : Heads) (place : ℕ → ℕ) (r : RangeState) (track from to : ℕ) → HoldsIn ps set r → HeadsAt set heads place r
     → used.IsCut ps set (λ k. option_map rank (head_of set heads k)) track from to (as_range r) → used.IsCut ps set (λ k. Some (place k)) track from to (as_range r)
 placed_cut ps set heads place r track from to h a x =
     cut_upto ps set r (λ k. option_map rank (head_of set heads k)) (λ k. Some (place k)) track from to h.film (λ k. at_head (queue_of k r.queues) (head_of set heads k) (place k) (a k)) x
 
 -- ---- the ranges of a cache
 
-pub record RangesCut (ps : List Told) (set : Choice) (track to : ℕ) (c c' : Option RangeState) (rs rs' : List RangeState) : Type 0 where
+pub record RangesCut (ps : List Packet) (set : Choice) (track to : ℕ) (c c' : Option RangeState) (rs rs' : List RangeState) : Type 0 where
   pub stand : (let s : Stand = record { current = option_map as_range c'; others = map as_range rs' } in s) ≡ tidied ps set (cut_in track to (option_map as_range c) (map as_range rs))
   pub current : IfSome c' (HoldsIn ps set)
   pub others : AllByRecursion (HoldsIn ps set) rs'
@@ -147,7 +147,7 @@ pub record RangesCut (ps : List Told) (set : Choice) (track to : ℕ) (c c' : Op
 abbrev stand_at : Option Range → List Range → Stand
 stand_at c rs = record { current = c; others = rs }
 
-front_cut : (ps : List Told) (set : Choice) (heads : Heads) (c c' : Option RangeState) (rs' : List RangeState) (x : Cut) → IfSome c IsRange → IfSome c (HoldsIn ps set)
+front_cut : (ps : List Packet) (set : Choice) (heads : Heads) (c c' : Option RangeState) (rs' : List RangeState) (x : Cut) → IfSome c IsRange → IfSome c (HoldsIn ps set)
     → CutsRange heads c [] c' rs' x → RangesCut ps set x.track (rank x.to) c c' [] rs'
 front_cut ps set heads None c' rs' x i h k = absurd k.0
 front_cut ps set heads (Some r) None rs' x i h k = absurd k.0
@@ -159,7 +159,7 @@ front_cut ps set heads (Some r) (Some q) rs' x i h k =
       others = subst (λ (rs : List RangeState). AllByRecursion (HoldsIn ps set) rs) (sym k.1) tt;
     }
 
-ranges_cut : (ps : List Told) (set : Choice) (heads : Heads) (c c' : Option RangeState) (rs rs' : List RangeState) (x : Cut) → IfSome c IsRange → AllByRecursion IsOther rs
+ranges_cut : (ps : List Packet) (set : Choice) (heads : Heads) (c c' : Option RangeState) (rs rs' : List RangeState) (x : Cut) → IfSome c IsRange → AllByRecursion IsOther rs
     → IfSome c (HoldsIn ps set) → AllByRecursion (HoldsIn ps set) rs → CutsRange heads c rs c' rs' x → RangesCut ps set x.track (rank x.to) c c' rs rs'
 ranges_cut ps set heads c c' [] rs' x i j h g k = front_cut ps set heads c c' rs' x i h k
 ranges_cut ps set heads c c' (r ∷ rs) rs' x i j h g k =
@@ -170,20 +170,20 @@ ranges_cut ps set heads c c' (r ∷ rs) rs' x i j h g k =
       others = last.held_all;
     }
 
-pub pruned_stand : (ps : List Told) (set : Choice) (heads : Heads) (m : Removal) (old new : CacheState) → IsCache old → HoldsAll ps set old → Drops heads m old new
+pub pruned_stand : (ps : List Packet) (set : Choice) (heads : Heads) (m : Removal) (old new : CacheState) → IsCache old → HoldsAll ps set old → Drops heads m old new
     → stand_of new ≡ tidied ps set (dropped m.track (rank m.to) m.cause (stand_of old))
 pruned_stand ps set heads m old new i h d =
     let all = ranges_cut ps set heads old.current new.current old.others new.others d.cut i.current i.others h.current h.others d.ranges in
     all.stand ∙ ap (λ (x : Removal). tidied ps set (dropped x.track (rank x.to) x.cause (stand_of old))) (sym d.told)
 
-pub pruned_holds : (ps : List Told) (set : Choice) (heads : Heads) (m : Removal) (old new : CacheState) → IsCache old → HoldsAll ps set old → Drops heads m old new → HoldsAll ps set new
+pub pruned_holds : (ps : List Packet) (set : Choice) (heads : Heads) (m : Removal) (old new : CacheState) → IsCache old → HoldsAll ps set old → Drops heads m old new → HoldsAll ps set new
 pruned_holds ps set heads m old new i h d =
     let all = ranges_cut ps set heads old.current new.current old.others new.others d.cut i.current i.others h.current h.others d.ranges in
     record { current = all.current; others = all.others }
 
 -- ---- the cut that is asked for
 
-front_asked : (ps : List Told) (set : Choice) (heads : Heads) (place : ℕ → ℕ) (c c' : Option RangeState) (rs' : List RangeState) (x : Cut) → IfSome c IsRange → IfSome c (HoldsIn ps set) → IfSome c (HeadsAt set heads place)
+front_asked : (ps : List Packet) (set : Choice) (heads : Heads) (place : ℕ → ℕ) (c c' : Option RangeState) (rs' : List RangeState) (x : Cut) → IfSome c IsRange → IfSome c (HoldsIn ps set) → IfSome c (HeadsAt set heads place)
     → CutsRange heads c [] c' rs' x
     → used.CutsIn ps set place x.track (rank x.from) (rank x.to) (option_map as_range c) [] × MayCut x.track (rank x.from) (rank x.to) (place x.track) (option_map as_range c) []
 front_asked ps set heads place None c' rs' x i h a k = absurd k.0
@@ -193,7 +193,7 @@ front_asked ps set heads place (Some r) (Some q) rs' x i h a k =
     let cut = placed_cut ps set heads place r x.track (rank x.from) (rank x.to) h a one.cut in
     (cut, (cuts_span ps set (λ n. Some (place n)) x.track (rank x.from) (rank x.to) (as_range r) one.onward cut, cut_below ps set place x.track (rank x.from) (rank x.to) (as_range r) cut))
 
-asked : (ps : List Told) (set : Choice) (heads : Heads) (place : ℕ → ℕ) (c c' : Option RangeState) (rs rs' : List RangeState) (x : Cut) → IfSome c IsRange → AllByRecursion IsOther rs
+asked : (ps : List Packet) (set : Choice) (heads : Heads) (place : ℕ → ℕ) (c c' : Option RangeState) (rs rs' : List RangeState) (x : Cut) → IfSome c IsRange → AllByRecursion IsOther rs
     → IfSome c (HoldsIn ps set) → AllByRecursion (HoldsIn ps set) rs → IfSome c (HeadsAt set heads place) → CutsRange heads c rs c' rs' x
     → used.CutsIn ps set place x.track (rank x.from) (rank x.to) (option_map as_range c) (map as_range rs) × MayCut x.track (rank x.from) (rank x.to) (place x.track) (option_map as_range c) (map as_range rs)
 asked ps set heads place c c' [] rs' x i j h g a k = front_asked ps set heads place c c' rs' x i h a k
@@ -201,13 +201,13 @@ asked ps set heads place c c' (r ∷ rs) rs' x i j h g a k =
     let last = last_cut ps set place (place x.track) (option_map as_range c) r rs rs' x j g k.0 in
     (last.cuts, last.may)
 
-pub pruned_cut : (ps : List Told) (set : Choice) (heads : Heads) (place : ℕ → ℕ) (m : Removal) (old new : CacheState) → IsCache old → HoldsAll ps set old → IfSome old.current (HeadsAt set heads place)
+pub pruned_cut : (ps : List Packet) (set : Choice) (heads : Heads) (place : ℕ → ℕ) (m : Removal) (old new : CacheState) → IsCache old → HoldsAll ps set old → IfSome old.current (HeadsAt set heads place)
     → Drops heads m old new → used.CutsIn ps set place m.track (rank m.from) (rank m.to) (stand_of old).current (stand_of old).others
 pruned_cut ps set heads place m old new i h a d =
     let both = asked ps set heads place old.current new.current old.others new.others d.cut i.current i.others h.current h.others a d.ranges in
     subst (λ (x : Removal). used.CutsIn ps set place x.track (rank x.from) (rank x.to) (stand_of old).current (stand_of old).others) (sym d.told) both.0
 
-pub pruned_may : (ps : List Told) (set : Choice) (heads : Heads) (place : ℕ → ℕ) (m : Removal) (old new : CacheState) → IsCache old → HoldsAll ps set old → IfSome old.current (HeadsAt set heads place)
+pub pruned_may : (ps : List Packet) (set : Choice) (heads : Heads) (place : ℕ → ℕ) (m : Removal) (old new : CacheState) → IsCache old → HoldsAll ps set old → IfSome old.current (HeadsAt set heads place)
     → Drops heads m old new → MayCut m.track (rank m.from) (rank m.to) (place m.track) (stand_of old).current (stand_of old).others
 pruned_may ps set heads place m old new i h a d =
     let both = asked ps set heads place old.current new.current old.others new.others d.cut i.current i.others h.current h.others a d.ranges in
@@ -229,7 +229,7 @@ still_there o None P e h = tt
 still_there None (Some q) P e h = absurd (cc)
 still_there (Some r) (Some q) P e h = h
 
-heads_in : (ps : List Told) (set : Choice) (heads : Heads) (place : ℕ → ℕ) (c c' : Option RangeState) (rs rs' : List RangeState) (x : Cut) → IfSome c IsRange → IfSome c (HoldsIn ps set)
+heads_in : (ps : List Packet) (set : Choice) (heads : Heads) (place : ℕ → ℕ) (c c' : Option RangeState) (rs rs' : List RangeState) (x : Cut) → IfSome c IsRange → IfSome c (HoldsIn ps set)
     → IfSome c (HeadsAt set heads place) → CutsRange heads c rs c' rs' x → IfSome c' (HeadsAt set heads place)
 heads_in ps set heads place c c' (r ∷ rs) rs' x i h a k = subst (λ (z : Option RangeState). IfSome z (HeadsAt set heads place)) (sym k.1) a
 heads_in ps set heads place None c' [] rs' x i h a k = absurd k.0
@@ -238,7 +238,7 @@ heads_in ps set heads place (Some r) (Some q) [] rs' x i h a k =
     let one = current_cut ps set heads r q x i h k.0 in
     λ n. still_there (queue_of n r.queues) (queue_of n q.queues) (IsSomeAnd (head_of set heads n) (λ p. rank p ≡ place n)) (queue_there x.track (rank x.to) n r q one.range_is) (a n)
 
-pub pruned_heads : (ps : List Told) (set : Choice) (heads : Heads) (place : ℕ → ℕ) (m : Removal) (old new : CacheState) → IsCache old → HoldsAll ps set old → IfSome old.current (HeadsAt set heads place)
+pub pruned_heads : (ps : List Packet) (set : Choice) (heads : Heads) (place : ℕ → ℕ) (m : Removal) (old new : CacheState) → IsCache old → HoldsAll ps set old → IfSome old.current (HeadsAt set heads place)
     → Drops heads m old new → IfSome new.current (HeadsAt set heads place)
 pruned_heads ps set heads place m old new i h a d = heads_in ps set heads place old.current new.current old.others new.others d.cut i.current h.current a d.ranges
 

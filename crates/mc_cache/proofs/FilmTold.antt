@@ -11,7 +11,6 @@ use Rattle.mc_packet.specs.declared.choice.Starts.{Starts}
 use Rattle.mc_journal.specs.declared.record.Cause.{Cause}
 use Rattle.mc_journal.specs.declared.record.Cause.TheVariants.{TooMany, TrackChanged}
 use Rattle.mc_journal.specs.declared.record.Removal.{Removal}
-use Rattle.mc_journal.specs.Told.{Told, told}
 use Rattle.mc_packet.specs.Choices.{has, is_other, is_track}
 use Rattle.mc_journal.specs.Choices.{kept_of, kept_track}
 use Rattle.mc_journal.specs.Films.{first, rank}
@@ -52,31 +51,31 @@ three_told v a s x y z e f g =
 
 -- ---- a queue
 
-queue_told : (cause : Cause) (k : ℕ) (q : QueueState) → q.track ≡ k → map due_of (removal_in cause (Some q)) ≡ due_span cause k (Some (span_of q)) (is_some (first (map told q.packets)))
+queue_told : (cause : Cause) (k : ℕ) (q : QueueState) → q.track ≡ k → map due_of (removal_in cause (Some q)) ≡ due_span cause k (Some (span_of q)) (is_some (first (q.packets)))
 queue_told cause k q e = by q.packets
   where
-    by : (ps : List Packet) → map due_of (removal_if cause q.track q.from q.to ps) ≡ due_span cause k (Some (span_of q)) (is_some (first (map told ps)))
+    by : (ps : List Packet) → map due_of (removal_if cause q.track q.from q.to ps) ≡ due_span cause k (Some (span_of q)) (is_some (first (ps)))
     by [] = refl
     by (p ∷ ps) = ap (λ n. let d : Due = record { track = n; from = rank q.from; to = rank q.to; cause = cause } in d ∷ []) e
 
 own_track : (t : Option ℕ) (q : QueueState) (k : ℕ) → t ≡ Some q.track → t ≡ Some k → q.track ≡ k
 own_track t q k e f = let g : Some q.track ≡ Some k = sym e ∙ f in cc
 
-kind_told : (cause : Cause) (ps : List Told) (r : RangeState) (t : Option ℕ) (o : Option QueueState) → HoldsFilm ps r → QueueIn t r.mark o → ((k : ℕ) → t ≡ Some k → queue_of k r.queues ≡ o)
+kind_told : (cause : Cause) (ps : List Packet) (r : RangeState) (t : Option ℕ) (o : Option QueueState) → HoldsFilm ps r → QueueIn t r.mark o → ((k : ℕ) → t ≡ Some k → queue_of k r.queues ≡ o)
     → map due_of (removal_in cause o) ≡ due_track cause ps (as_range r) t
 kind_told cause ps r None None h i f = refl
 kind_told cause ps r None (Some q) h i f = absurd (let e = i.0 in cc)
 kind_told cause ps r (Some k) None h i f = let g = f k refl in rw g refl
 kind_told cause ps r (Some k) (Some q) h i f =
     let g = f k refl in
-    let x : held (as_range r) ps k ≡ map told q.packets = h k ∙ ap (λ (o : Option QueueState). map told (packets_in o)) g in
+    let x : held (as_range r) ps k ≡ q.packets = h k ∙ ap (λ (o : Option QueueState). (packets_in o)) g in
     queue_told cause k q (own_track (Some k) q k i.0 refl)
-    ∙ ap (λ b. due_span cause k (Some (span_of q)) b) (ap (λ (xs : List Told). is_some (first xs)) (sym x))
+    ∙ ap (λ b. due_span cause k (Some (span_of q)) b) (ap (λ (xs : List Packet). is_some (first xs)) (sym x))
     ∙ ap (λ (o : Option QueueState). due_span cause k (option_map span_of o) (is_some (first (held (as_range r) ps k)))) (sym g)
 
 -- ---- all queues of a range, and of several
 
-range_told : (cause : Cause) (ps : List Told) (set : Choice) (r : RangeState) → IsRange r → HoldsIn ps set r → map due_of (removals_of cause r) ≡ due_range cause ps set (as_range r)
+range_told : (cause : Cause) (ps : List Packet) (set : Choice) (r : RangeState) → IsRange r → HoldsIn ps set r → map due_of (removals_of cause r) ≡ due_range cause ps set (as_range r)
 range_told cause ps set r i h =
     three_told (removal_in cause r.queues.video) (removal_in cause r.queues.audio) (removal_in cause r.queues.sub) _ _ _
     (kind_told cause ps r r.set.video r.queues.video h.film i.held.video (λ k e. video_is r k i e))
@@ -84,7 +83,7 @@ range_told cause ps set r i h =
     (kind_told cause ps r r.set.sub r.queues.sub h.film i.held.sub (λ k e. sub_is r k i e))
     ∙ ap (λ (s : Choice). due_range cause ps s (as_range r)) h.set_is
 
-ranges_told : (cause : Cause) (ps : List Told) (set : Choice) (rs : List RangeState) → AllByRecursion IsOther rs → AllByRecursion (HoldsIn ps set) rs
+ranges_told : (cause : Cause) (ps : List Packet) (set : Choice) (rs : List RangeState) → AllByRecursion IsOther rs → AllByRecursion (HoldsIn ps set) rs
     → map due_of (removals_of_all cause rs) ≡ due_ranges cause ps set (map as_range rs)
 ranges_told cause ps set [] i h = refl
 ranges_told cause ps set (r ∷ rs) i h =
@@ -107,7 +106,7 @@ all_dropped P (suc n) (r ∷ rs) a = all_dropped P n rs a.1
 no_current : (o : Option RangeState) (xs : List Due) → o ≡ None → option_map_or (λ (r : Range). []) (option_map as_range o) xs ≡ xs
 no_current o xs e = rw e refl
 
-pub started_told : (ps : List Told) (set : Choice) (starts : Starts) (drops : List Removal) (old new : CacheState) → IsCache old → HoldsAll ps set old → old.current ≡ None
+pub started_told : (ps : List Packet) (set : Choice) (starts : Starts) (drops : List Removal) (old new : CacheState) → IsCache old → HoldsAll ps set old → old.current ≡ None
     → IsStarted set starts drops old new → map due_of drops ≡ due_found ps set (stand_of old)
 started_told ps set starts drops old new i h n s =
     let left : drop 9 (left_with old.current old.others) ≡ drop 9 old.others = ap (λ c. drop 9 (left_with c old.others)) n in
@@ -160,7 +159,7 @@ sub_alone set next k e v =
     let s = not_both set.sub next.audio k r.1 v in
     rw (a, s) refl
 
-lost_told : (cause : Cause) (ps : List Told) (next : Choice) (r : RangeState) (t u : Option ℕ) (o : Option QueueState) → HoldsFilm ps r → QueueIn t r.mark o
+lost_told : (cause : Cause) (ps : List Packet) (next : Choice) (r : RangeState) (t u : Option ℕ) (o : Option QueueState) → HoldsFilm ps r → QueueIn t r.mark o
     → ((k : ℕ) → t ≡ Some k → queue_of k r.queues ≡ o) → ((k : ℕ) → t ≡ Some k → has next k ≡ is_track u k)
     → map due_of (removal_in cause (lost_queue u o)) ≡ due_track cause ps (as_range r) (kept_track (λ k. not (has next k)) t)
 lost_told cause ps next r None u None h i f g = refl
@@ -183,7 +182,7 @@ lost_told cause ps next r (Some k) u (Some q) h i f g =
           rw (z, w) (kind_told cause ps r (Some k) (Some q) h i f)
     ]
 
-lost_range : (cause : Cause) (ps : List Told) (set next : Choice) (r : RangeState) → IsRange r → HoldsIn ps set r → same_kinds set next ≡ true
+lost_range : (cause : Cause) (ps : List Packet) (set next : Choice) (r : RangeState) → IsRange r → HoldsIn ps set r → same_kinds set next ≡ true
     → map due_of (removals_in cause (lost_queues next r.queues)) ≡ due_range cause ps (kept_of set (λ k. not (has next k))) (as_range r)
 lost_range cause ps set next r i h e =
     let s : same_kinds r.set next ≡ true = subst (λ (x : Choice). same_kinds x next ≡ true) (sym h.set_is) e in
@@ -193,12 +192,12 @@ lost_range cause ps set next r i h e =
     (lost_told cause ps next r r.set.sub next.sub r.queues.sub h.film i.held.sub (λ k x. sub_is r k i x) (λ k x. sub_alone r.set next k s x))
     ∙ ap (λ (x : Choice). due_range cause ps (kept_of x (λ k. not (has next k))) (as_range r)) h.set_is
 
-lost_current : (cause : Cause) (ps : List Told) (set next : Choice) (c : Option RangeState) → IfSome c IsRange → IfSome c (HoldsIn ps set) → same_kinds set next ≡ true
+lost_current : (cause : Cause) (ps : List Packet) (set next : Choice) (c : Option RangeState) → IfSome c IsRange → IfSome c (HoldsIn ps set) → same_kinds set next ≡ true
     → map due_of (removals_lost cause next c) ≡ option_map_or (due_range cause ps (kept_of set (λ k. not (has next k)))) (option_map as_range c) []
 lost_current cause ps set next None i h e = refl
 lost_current cause ps set next (Some r) i h e = lost_range cause ps set next r i h e
 
-pub retracked_told : (ps : List Told) (set next : Choice) (drops : List Removal) (old new : CacheState) → IsCache old → HoldsAll ps set old → same_kinds set next ≡ true
+pub retracked_told : (ps : List Packet) (set next : Choice) (drops : List Removal) (old new : CacheState) → IsCache old → HoldsAll ps set old → same_kinds set next ≡ true
     → IsRetracked next drops old new → map due_of drops ≡ due_switch ps set next (stand_of old)
 retracked_told ps set next drops old new i h e r =
     ap (λ ds. map due_of ds) r.told

@@ -7,7 +7,7 @@ use Rattle.std.proofs.lemmas.Bool.{cases_Bool}
 use Rattle.mc_packet.specs.declared.choice.Choice.{Choice}
 use Rattle.mc_packet.specs.declared.walk.Mark.{Mark}
 use Rattle.mc_journal.specs.declared.record.Removal.{Removal}
-use Rattle.mc_journal.specs.Told.{Told}
+use Rattle.mc_packet.specs.declared.packet.Packet.{Packet}
 use Rattle.mc_packet.specs.Choices.{is_distinct}
 use Rattle.mc_journal.specs.Films.{IsRising}
 use Rattle.mc_journal.specs.Ranges.{Range, touches}
@@ -60,7 +60,7 @@ none_touches test seen (r ∷ rs) a e = elim (cases_Bool (test r)) [
 
 -- ---- all joins of a call
 
-pub record Joined (ps : List Told) (set : Choice) (old new : Stand) (c : Option RangeState) (rs : List RangeState) (n : ℕ) (drops : List Removal) : Type 0 where
+pub record Joined (ps : List Packet) (set : Choice) (old new : Stand) (c : Option RangeState) (rs : List RangeState) (n : ℕ) (drops : List Removal) : Type 0 where
   pub none_told : drops ≡ []
   pub stand : joined_times n set old ≡ new
   pub touching : AreTouched n set old
@@ -71,7 +71,7 @@ pub record Joined (ps : List Told) (set : Choice) (old new : Stand) (c : Option 
 abbrev stand_at : Option RangeState → List RangeState → Stand
 stand_at c rs = record { current = option_map as_range c; others = map as_range rs }
 
-joins_from : (ps : List Told) (set : Choice) (c c' : Option RangeState) (rs rs' : List RangeState) (n : ℕ) (drops : List Removal) → IsRising ps → IfSome c IsRange → AllByRecursion IsOther rs
+joins_from : (ps : List Packet) (set : Choice) (c c' : Option RangeState) (rs rs' : List RangeState) (n : ℕ) (drops : List Removal) → IsRising ps → IfSome c IsRange → AllByRecursion IsOther rs
     → IfSome c (HoldsIn ps set) → AllByRecursion (HoldsIn ps set) rs → JoinsFrom c rs c' rs' n drops → Joined ps set (stand_at c rs) (stand_at c' rs') c' rs' n drops
 joins_from ps set None c' rs rs' n drops rise i j h g x =
     let none : c' ≡ None = x.0 in
@@ -98,7 +98,7 @@ joins_from ps set (Some r) (Some q) rs rs' n drops rise i j h g x =
       others = k.film;
     }
 
-pub joined_up : (ps : List Told) (set : Choice) (n : ℕ) (drops : List Removal) (old new : CacheState) → IsRising ps → IsCache old → HoldsAll ps set old → IsJoinedUp n drops old new
+pub joined_up : (ps : List Packet) (set : Choice) (n : ℕ) (drops : List Removal) (old new : CacheState) → IsRising ps → IsCache old → HoldsAll ps set old → IsJoinedUp n drops old new
     → Joined ps set (stand_of old) (stand_of new) new.current new.others n drops
 joined_up ps set n drops old new rise i h j =
     let others : j.roomy.others ≡ old.others = j.room.others_is in

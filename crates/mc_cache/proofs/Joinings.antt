@@ -6,7 +6,7 @@ use Rattle.std.specs.Option.{option_map}
 use Rattle.std.proofs.lemmas.Bool.{eq-eqb}
 use Rattle.mc_packet.specs.declared.choice.Choice.{Choice}
 use Rattle.mc_journal.specs.declared.record.Removal.{Removal}
-use Rattle.mc_journal.specs.Told.{Told}
+use Rattle.mc_packet.specs.declared.packet.Packet.{Packet}
 use Rattle.mc_journal.specs.Films.{IsRising}
 use Rattle.mc_journal.specs.Ranges.{touches}
 use Rattle.mc_journal.specs.Stands.{Stand, joined as joined_stand, union_range}
@@ -22,7 +22,7 @@ use Rattle.mc_cache.proofs.Lists.{fewer, found_passes}
 use Rattle.mc_cache.proofs.Standing.{Held, all_find, all_without, both_all, find_same, without_same}
 
 -- what is kept by joins
-pub record Kept (ps : List Told) (set : Choice) (first : RangeState) (beside : List RangeState) (r : RangeState) (rs : List RangeState) (n : ℕ) (drops : List Removal) : Type 0 where
+pub record Kept (ps : List Packet) (set : Choice) (first : RangeState) (beside : List RangeState) (r : RangeState) (rs : List RangeState) (n : ℕ) (drops : List Removal) : Type 0 where
   pub range : Held ps set r
   pub others : AllByRecursion IsOther rs
   pub film : AllByRecursion (HoldsIn ps set) rs
@@ -37,7 +37,7 @@ same_track (Some k) = eq-eqb k k refl
 same_set : (set : Choice) → is_same_set set set ≡ true
 same_set set = let v = same_track set.video in let a = same_track set.audio in let s = same_track set.sub in rw (v, a, s) refl
 
-pub meets_is : (ps : List Told) (set : Choice) (r q : RangeState) → HoldsIn ps set r → HoldsIn ps set q → meets_range r q ≡ touches set (as_range r) (as_range q)
+pub meets_is : (ps : List Packet) (set : Choice) (r q : RangeState) → HoldsIn ps set r → HoldsIn ps set q → meets_range r q ≡ touches set (as_range r) (as_range q)
 meets_is ps set r q h g =
     let e = h.set_is in
     let f = g.set_is in
@@ -63,10 +63,10 @@ next_times n set st = let e : n + 1 ≡ suc n = omega arith in rw e refl
 next_touched : (n : ℕ) (set : Choice) (st : Stand) → AreTouched n set st → touched set (joined_times n set st).others (joined_times n set st).current ≡ true → AreTouched (n + 1) set st
 next_touched n set st a t = let e : n + 1 ≡ suc n = omega arith in rw e (a, t)
 
-found_film : (ps : List Told) (set : Choice) (test : RangeState → Bool) (rs : List RangeState) (o : RangeState) → AllByRecursion (HoldsIn ps set) rs → find test rs ≡ Some o → HoldsIn ps set o
+found_film : (ps : List Packet) (set : Choice) (test : RangeState → Bool) (rs : List RangeState) (o : RangeState) → AllByRecursion (HoldsIn ps set) rs → find test rs ≡ Some o → HoldsIn ps set o
 found_film ps set test rs o a e = let g = all_find (HoldsIn ps set) test rs a in rw e at g
 
-pub joins_film : (ps : List Told) (set : Choice) (first : RangeState) (beside : List RangeState) (r : RangeState) (rs : List RangeState) (n : ℕ) (drops : List Removal)
+pub joins_film : (ps : List Packet) (set : Choice) (first : RangeState) (beside : List RangeState) (r : RangeState) (rs : List RangeState) (n : ℕ) (drops : List Removal)
     → IsRising ps → Held ps set first → AllByRecursion IsOther beside → AllByRecursion (HoldsIn ps set) beside → Joins first beside r rs n drops → Kept ps set first beside r rs n drops
 joins_film ps set first beside _ _ _ _ rise h a b unjoined = record { range = h; others = a; film = b; none_told = refl; stand = refl; touching = tt }
 joins_film ps set first beside _ _ _ _ rise h a b (united r rs n drops o r' o' j e u i) =
@@ -93,7 +93,7 @@ joins_film ps set first beside _ _ _ _ rise h a b (parted r rs n drops o r' at o
     let z = only_memory ps r o (Differ at ours other) k.range.range f.one.range m k.range.film.film g.film u in
     absurd (cc)
 
-pub joins_films : (ps : List Told) (set : Choice) (first : RangeState) (beside : List RangeState) (r : RangeState) (rs : List RangeState) (n : ℕ) (drops : List Removal)
+pub joins_films : (ps : List Packet) (set : Choice) (first : RangeState) (beside : List RangeState) (r : RangeState) (rs : List RangeState) (n : ℕ) (drops : List Removal)
     → IsRising ps → IsRange first → HoldsIn ps set first → AllByRecursion IsOther beside → AllByRecursion (HoldsIn ps set) beside → Joins first beside r rs n drops → JoinsFilm ps set first beside r rs n drops
 joins_films ps set first beside r rs n drops rise i h a b j =
     let k = joins_film ps set first beside r rs n drops rise (record { range = i; film = h }) a b j in

@@ -7,7 +7,6 @@ use Rattle.mc_packet.specs.declared.packet.Packet.{Packet}
 use Rattle.mc_packet.specs.declared.cache.Heads.{Heads}
 use Rattle.mc_packet.specs.declared.choice.Choice.{Choice}
 use Rattle.mc_packet.specs.declared.walk.Mark.{Mark}
-use Rattle.mc_journal.specs.Told.{Told, told}
 use Rattle.mc_packet.specs.Choices.{or_else}
 use Rattle.mc_journal.specs.Films.{rank, track_of}
 use Rattle.mc_journal.specs.Ranges.{Span, in_span}
@@ -66,11 +65,11 @@ same_range o n r =
     range_is _ _ _ _ _ _ (λ k. same_span (queue_of k o.queues) (queue_of k n.queues) (queue_roomier k o.queues n.queues r.queues))
     (ap (λ (m : Mark). m.pos) r.mark_is) r.ending_is
 
-same_film : (ps : List Told) (o n : RangeState) → IsRoomier o n → HoldsFilm ps o → HoldsFilm ps n
+same_film : (ps : List Packet) (o n : RangeState) → IsRoomier o n → HoldsFilm ps o → HoldsFilm ps n
 same_film ps o n r h = λ k.
     let q = queue_roomier k o.queues n.queues r.queues in
     ap (λ (s : Option Span). in_span s (track_of k ps)) (same_span (queue_of k o.queues) (queue_of k n.queues) q) ∙ h k
-    ∙ ap (λ (xs : List Packet). map told xs) (sym (same_packets (queue_of k o.queues) (queue_of k n.queues) q))
+    ∙ ap (λ (xs : List Packet). xs) (sym (same_packets (queue_of k o.queues) (queue_of k n.queues) q))
 
 -- ---- a cache
 
@@ -79,7 +78,7 @@ same_current None n r = rw r refl
 same_current (Some o) None r = absurd r
 same_current (Some o) (Some n) r = ap (λ x. Some x) (same_range o n r)
 
-film_current : (ps : List Told) (set : Choice) (o n : Option RangeState) → RoomierIn o n → IfSome o (HoldsIn ps set) → IfSome n (HoldsIn ps set)
+film_current : (ps : List Packet) (set : Choice) (o n : Option RangeState) → RoomierIn o n → IfSome o (HoldsIn ps set) → IfSome n (HoldsIn ps set)
 film_current ps set None n r h = rw r tt
 film_current ps set (Some o) None r h = absurd r
 film_current ps set (Some o) (Some n) r h = record { film = same_film ps o n r h.film; set_is = r.set_is ∙ h.set_is }
@@ -95,7 +94,7 @@ room_stand old new s =
     stand_is (option_map as_range new.current) (option_map as_range old.current) (map as_range new.others) (map as_range old.others)
     (same_current old.current new.current s.current) (ap (λ rs. map as_range rs) s.others_is)
 
-pub room_film : (ps : List Told) (set : Choice) (old new : CacheState) → IsSameButRoom old new → HoldsAll ps set old → HoldsAll ps set new
+pub room_film : (ps : List Packet) (set : Choice) (old new : CacheState) → IsSameButRoom old new → HoldsAll ps set old → HoldsAll ps set new
 room_film ps set old new s h =
     let o = s.others_is in
     record { current = film_current ps set old.current new.current s.current h.current; others = rw o h.others }
@@ -106,7 +105,7 @@ room_heads set heads place old new s h = heads_current set heads place old.curre
 pub roomier_stand : (old new : CacheState) → IsOnlyRoomier old new → stand_of new ≡ stand_of old
 roomier_stand old new s = ap (λ (c : CacheState). stand_of c) s.same
 
-pub roomier_film : (ps : List Told) (set : Choice) (old new : CacheState) → IsOnlyRoomier old new → HoldsAll ps set old → HoldsAll ps set new
+pub roomier_film : (ps : List Packet) (set : Choice) (old new : CacheState) → IsOnlyRoomier old new → HoldsAll ps set old → HoldsAll ps set new
 roomier_film ps set old new s h =
     let c : new.current ≡ old.current = ap (λ (x : CacheState). x.current) s.same in
     let o : new.others ≡ old.others = ap (λ (x : CacheState). x.others) s.same in

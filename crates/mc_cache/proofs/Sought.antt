@@ -9,7 +9,7 @@ use Rattle.mc_packet.specs.declared.cache.Heads.{Heads}
 use Rattle.mc_packet.specs.declared.choice.Choice.{Choice}
 use Rattle.mc_packet.specs.declared.choice.Dir.{Dir}
 use Rattle.mc_packet.specs.declared.walk.Mark.{Mark}
-use Rattle.mc_journal.specs.Told.{Told}
+use Rattle.mc_packet.specs.declared.packet.Packet.{Packet}
 use Rattle.mc_packet.specs.Choices.{is_distinct}
 use Rattle.mc_journal.specs.Films.{rank}
 use Rattle.mc_journal.specs.Ranges.{Range, serves as film_serves}
@@ -39,17 +39,17 @@ some_seen : (o : Option RangeState) → is_some (option_map as_range o) ≡ is_s
 some_seen None = refl
 some_seen (Some r) = refl
 
-pub seek_served : (ps : List Told) (set : Choice) (t : ℤ) (dir : Dir) (st : CacheState) → IsCache st → HoldsAll ps set st
+pub seek_served : (ps : List Packet) (set : Choice) (t : ℤ) (dir : Dir) (st : CacheState) → IsCache st → HoldsAll ps set st
     → is_some (heads_in set t dir (server set t dir st)) ≡ is_some (first_that (film_serves ps set dir t) (stand_ranges (stand_of st)))
 seek_served ps set t dir st i h =
     find_serves set t dir (ranges_of st) ∙ sym (some_seen (server set t dir st)) ∙ ap (λ (o : Option Range). is_some o) (sym (server_film ps set t dir st i h))
 
-heads_of_one : (ps : List Told) (set : Choice) (t : ℤ) (dir : Dir) (o : Option RangeState) → IfSome o (HoldsFilm ps) → is_distinct set ≡ true
+heads_of_one : (ps : List Packet) (set : Choice) (t : ℤ) (dir : Dir) (o : Option RangeState) → IfSome o (HoldsFilm ps) → is_distinct set ≡ true
     → IfSome (heads_in set t dir o) (λ h. AreHeads set (λ track. chosen_head ps set dir t track (option_map as_range o)) h)
 heads_of_one ps set t dir None h d = tt
 heads_of_one ps set t dir (Some r) h d = film_heads ps r set t dir h d
 
-pub seek_heads : (ps : List Told) (set : Choice) (t : ℤ) (dir : Dir) (st : CacheState) → IsCache st → HoldsAll ps set st → is_distinct set ≡ true
+pub seek_heads : (ps : List Packet) (set : Choice) (t : ℤ) (dir : Dir) (st : CacheState) → IsCache st → HoldsAll ps set st → is_distinct set ≡ true
     → IfSome (heads_in set t dir (server set t dir st)) (λ h. AreHeads set (λ track. chosen_head ps set dir t track (first_that (film_serves ps set dir t) (stand_ranges (stand_of st)))) h)
 seek_heads ps set t dir st i h d =
     let all = both_all (Held ps set) (HoldsFilm ps) (ranges_of st) (λ r x. x.film.film) (all_of ps set st i h) in

@@ -11,7 +11,6 @@ use Rattle.mc_packet.specs.declared.choice.Starts.{Starts}
 use Rattle.mc_packet.specs.declared.packet.Packet.{Packet}
 use Rattle.mc_packet.specs.declared.walk.Chunk.{Chunk}
 use Rattle.mc_journal.specs.declared.record.Removal.{Removal}
-use Rattle.mc_journal.specs.Told.{Told, told}
 use Rattle.mc_packet.specs.Choices.{is_distinct, is_empty, passes}
 use Rattle.mc_journal.specs.Films.{IsRising, first}
 use Rattle.mc_journal.specs.Ranges.{Range, held, serves as film_serves}
@@ -94,12 +93,12 @@ filter_same test seen (r ∷ rs) a = elim (cases_Bool (test r)) [
 
 -- ---- whether a range holds a packet
 
-some_told : (ps : List Packet) → is_some (first (map told ps)) ≡ nat_lt 0 (length ps)
+some_told : (ps : List Packet) → is_some (first (ps)) ≡ nat_lt 0 (length ps)
 some_told [] = refl
 some_told (p ∷ ps) = sym (lt-ltb 0 (length (p ∷ ps)) (omega arith))
 
 -- of each kind: nothing there where it has no track, else its queue's packets
-kind_told : (ps : List Told) (r : RangeState) (track : Option ℕ) (q : Option QueueState) → HoldsFilm ps r → QueueIn track r.mark q → ((k : ℕ) → track ≡ Some k → queue_of k r.queues ≡ q)
+kind_told : (ps : List Packet) (r : RangeState) (track : Option ℕ) (q : Option QueueState) → HoldsFilm ps r → QueueIn track r.mark q → ((k : ℕ) → track ≡ Some k → queue_of k r.queues ≡ q)
     → passes track (λ k. not (is_some (first (held (as_range r) ps k)))) ≡ not (nat_lt 0 (count q))
 kind_told ps r None None h i f = refl
 kind_told ps r None (Some q) h i f = absurd (let e = i.0 in cc)
@@ -119,7 +118,7 @@ none_of a b c = elim (cases_Bool (nat_lt 0 (a + (b + c)))) [
   | inr n ↦ grind (arith, nat_tests)
 ]
 
-pub holds_same : (ps : List Told) (set : Choice) (r : RangeState) → IsRange r → HoldsIn ps set r → holds r ≡ holds_any ps set (as_range r)
+pub holds_same : (ps : List Packet) (set : Choice) (r : RangeState) → IsRange r → HoldsIn ps set r → holds r ≡ holds_any ps set (as_range r)
 holds_same ps set r i h =
     let v = kind_told ps r r.set.video r.queues.video h.film i.held.video (λ k e. video_is r k i e) in
     let a = kind_told ps r r.set.audio r.queues.audio h.film i.held.audio (λ k e. audio_is r k i e) in
@@ -131,15 +130,15 @@ holds_same ps set r i h =
 
 -- ---- all ranges of a cache
 
-pub record Held (ps : List Told) (set : Choice) (r : RangeState) : Type 0 where
+pub record Held (ps : List Packet) (set : Choice) (r : RangeState) : Type 0 where
   pub range : IsRange r
   pub film : HoldsIn ps set r
 
-pub pair_all : (ps : List Told) (set : Choice) (rs : List RangeState) → AllByRecursion IsOther rs → AllByRecursion (HoldsIn ps set) rs → AllByRecursion (Held ps set) rs
+pub pair_all : (ps : List Packet) (set : Choice) (rs : List RangeState) → AllByRecursion IsOther rs → AllByRecursion (HoldsIn ps set) rs → AllByRecursion (Held ps set) rs
 pair_all ps set [] a b = tt
 pair_all ps set (r ∷ rs) a b = (record { range = a.0.range; film = b.0 }, pair_all ps set rs a.1 b.1)
 
-pub all_of : (ps : List Told) (set : Choice) (st : CacheState) → IsCache st → HoldsAll ps set st → AllByRecursion (Held ps set) (ranges_of st)
+pub all_of : (ps : List Packet) (set : Choice) (st : CacheState) → IsCache st → HoldsAll ps set st → AllByRecursion (Held ps set) (ranges_of st)
 all_of ps set st i h = front st.current i.current h.current
   where
     front : (c : Option RangeState) → IfSome c IsRange → IfSome c (HoldsIn ps set) → AllByRecursion (Held ps set) (in_front c st.others)
@@ -158,7 +157,7 @@ left_kept (Some r) rs a = elim (cases_Bool (holds r)) [
 pub stand_is : (c d : Option Range) (rs qs : List Range) → c ≡ d → rs ≡ qs → (let s : Stand = record { current = c; others = rs } in s) ≡ (let s : Stand = record { current = d; others = qs } in s)
 stand_is c d rs qs e f = rw (e, f) refl
 
-pub left_stand : (ps : List Told) (set : Choice) (old new : CacheState) → IsCache old → HoldsAll ps set old → IsLeft old new → stand_of new ≡ tidied ps set (left (stand_of old))
+pub left_stand : (ps : List Packet) (set : Choice) (old new : CacheState) → IsCache old → HoldsAll ps set old → IsLeft old new → stand_of new ≡ tidied ps set (left (stand_of old))
 left_stand ps set old new i h l =
     let a = all_of ps set old i h in
     let k = both_all (Held ps set) (λ r. holds r ≡ holds_any ps set (as_range r)) (ranges_of old) (λ r x. holds_same ps set r x.range x.film) a in
@@ -167,21 +166,21 @@ left_stand ps set old new i h l =
     (ap (λ c. option_map as_range c) l.no_current)
     (ap (λ rs. map as_range rs) (l.others_is ∙ left_kept old.current old.others i.others) ∙ sym f ∙ ap (λ rs. filter (holds_any ps set) rs) (sym (front_same old.current old.others)))
 
-pub left_holds : (ps : List Told) (set : Choice) (old new : CacheState) → IsCache old → HoldsAll ps set old → IsLeft old new → HoldsAll ps set new
+pub left_holds : (ps : List Packet) (set : Choice) (old new : CacheState) → IsCache old → HoldsAll ps set old → IsLeft old new → HoldsAll ps set new
 left_holds ps set old new i h l =
     let a = all_front (HoldsIn ps set) old.current old.others h.current h.others in
     let c = l.no_current in
     let o = l.others_is ∙ left_kept old.current old.others i.others in
     record { current = rw c tt; others = rw o (all_filter (HoldsIn ps set) holds (ranges_of old) a) }
 
-pub server_film : (ps : List Told) (set : Choice) (t : ℤ) (dir : Dir) (st : CacheState) → IsCache st → HoldsAll ps set st
+pub server_film : (ps : List Packet) (set : Choice) (t : ℤ) (dir : Dir) (st : CacheState) → IsCache st → HoldsAll ps set st
     → first_that (film_serves ps set dir t) (stand_ranges (stand_of st)) ≡ option_map as_range (server set t dir st)
 server_film ps set t dir st i h =
     let a = all_of ps set st i h in
     let k = both_all (Held ps set) (λ r. serves set t dir r ≡ film_serves ps set dir t (as_range r)) (ranges_of st) (λ r x. film_served ps r set t dir x.film.film) a in
     ap (λ rs. first_that (film_serves ps set dir t) rs) (front_same st.current st.others) ∙ find_same (serves set t dir) (film_serves ps set dir t) (ranges_of st) k
 
-pub chosen_stand : (ps : List Told) (set : Choice) (t : ℤ) (dir : Dir) (old new : CacheState) → IsCache old → HoldsAll ps set old → IsChosen set t dir old new
+pub chosen_stand : (ps : List Packet) (set : Choice) (t : ℤ) (dir : Dir) (old new : CacheState) → IsCache old → HoldsAll ps set old → IsChosen set t dir old new
     → stand_of new ≡ tidied ps set (chosen (film_serves ps set dir t) (stand_of old))
 chosen_stand ps set t dir old new i h c =
     let a = all_of ps set old i h in
@@ -196,7 +195,7 @@ chosen_stand ps set t dir old new i h c =
     (ap (λ rs. map as_range rs) c.others_is ∙ sym f ∙ ap (λ rs. filter (holds_any ps set) rs) (sym w)
     ∙ ap (λ rs. filter (holds_any ps set) (stand_without (film_serves ps set dir t) rs)) (sym (front_same old.current old.others)))
 
-pub chosen_holds : (ps : List Told) (set : Choice) (t : ℤ) (dir : Dir) (old new : CacheState) → HoldsAll ps set old → IsChosen set t dir old new → HoldsAll ps set new
+pub chosen_holds : (ps : List Packet) (set : Choice) (t : ℤ) (dir : Dir) (old new : CacheState) → HoldsAll ps set old → IsChosen set t dir old new → HoldsAll ps set new
 chosen_holds ps set t dir old new h c =
     let a = all_front (HoldsIn ps set) old.current old.others h.current h.others in
     let e = c.current_is in
@@ -212,7 +211,7 @@ begun_is : (set : Choice) (starts : Starts) (c : Option RangeState) → is_disti
 begun_is set starts None d b = absurd b
 begun_is set starts (Some r) d b = ap (λ x. Some x) (begun_ranges set starts r d b)
 
-begun_holds : (ps : List Told) (set : Choice) (starts : Starts) (c : Option RangeState) → IsSomeAnd c (λ r. IsBegun set starts r) → IfSome c (HoldsIn ps set)
+begun_holds : (ps : List Packet) (set : Choice) (starts : Starts) (c : Option RangeState) → IsSomeAnd c (λ r. IsBegun set starts r) → IfSome c (HoldsIn ps set)
 begun_holds ps set starts None b = tt
 begun_holds ps set starts (Some r) b = record { film = begun_film ps set starts r b; set_is = b.set_is }
 
@@ -223,7 +222,7 @@ started_stand set starts drops old new d n s =
     (begun_is set starts new.current d s.current)
     (ap (λ rs. map as_range rs) (s.others_is ∙ ap (λ c. take 9 (left_with c old.others)) n) ∙ map_taken 9 old.others)
 
-pub started_holds : (ps : List Told) (set : Choice) (starts : Starts) (drops : List Removal) (old new : CacheState) → old.current ≡ None → HoldsAll ps set old → IsStarted set starts drops old new → HoldsAll ps set new
+pub started_holds : (ps : List Packet) (set : Choice) (starts : Starts) (drops : List Removal) (old new : CacheState) → old.current ≡ None → HoldsAll ps set old → IsStarted set starts drops old new → HoldsAll ps set new
 started_holds ps set starts drops old new n h s =
     let o : new.others ≡ take 9 old.others = s.others_is ∙ ap (λ c. take 9 (left_with c old.others)) n in
     record { current = begun_holds ps set starts new.current s.current; others = rw o (all_taken (HoldsIn ps set) 9 old.others h.others) }
@@ -235,7 +234,7 @@ fed_is c None b f = absurd f
 fed_is c (Some o) None f = absurd f
 fed_is c (Some o) (Some n) f = ap (λ x. Some x) (fed_ranges c o n f)
 
-fed_holds_in : (ps : List Told) (set : Choice) (c : Chunk) (a b : Option RangeState) → IsRising ps → IsPart ps c → IsSomeAnd a (λ o. c.from ≡ o.mark) → IfSome a IsRange → IfSome a (HoldsIn ps set)
+fed_holds_in : (ps : List Packet) (set : Choice) (c : Chunk) (a b : Option RangeState) → IsRising ps → IsPart ps c → IsSomeAnd a (λ o. c.from ≡ o.mark) → IfSome a IsRange → IfSome a (HoldsIn ps set)
     → IsSomeAnd a (λ o. IsSomeAnd b (λ n. IsFed c o n)) → IfSome b (HoldsIn ps set)
 fed_holds_in ps set c None b r p m i h f = absurd f
 fed_holds_in ps set c (Some o) None r p m i h f = absurd f
@@ -246,7 +245,7 @@ fed_stand chunk old new f =
     stand_is (option_map as_range new.current) (option_map (fed_range chunk.to.pos chunk.ending) (option_map as_range old.current)) (map as_range new.others) (map as_range old.others)
     (fed_is chunk old.current new.current f.current) (ap (λ rs. map as_range rs) f.others_is)
 
-pub fed_holds : (ps : List Told) (set : Choice) (chunk : Chunk) (old new : CacheState) → IsRising ps → IsPart ps chunk → IsCache old → IsSomeAnd old.current (λ r. chunk.from ≡ r.mark) → HoldsAll ps set old → Feeds chunk old new
+pub fed_holds : (ps : List Packet) (set : Choice) (chunk : Chunk) (old new : CacheState) → IsRising ps → IsPart ps chunk → IsCache old → IsSomeAnd old.current (λ r. chunk.from ≡ r.mark) → HoldsAll ps set old → Feeds chunk old new
     → HoldsAll ps set new
 fed_holds ps set chunk old new r p i m h f =
     let o = f.others_is in
@@ -263,26 +262,26 @@ empty_is : (b : Bool) (c : Option RangeState) → option_map as_range (if b then
 empty_is true c = refl
 empty_is false c = refl
 
-sets_of : (ps : List Told) (set : Choice) (c : Option RangeState) → IfSome c (HoldsIn ps set) → IfSome c (λ r. r.set ≡ set)
+sets_of : (ps : List Packet) (set : Choice) (c : Option RangeState) → IfSome c (HoldsIn ps set) → IfSome c (λ r. r.set ≡ set)
 sets_of ps set None h = tt
 sets_of ps set (Some r) h = h.set_is
 
-pub switched_stand : (ps : List Told) (set next : Choice) (drops : List Removal) (old new : CacheState) → IsCache old → HoldsAll ps set old → same_kinds set next ≡ true → IsRetracked next drops old new → stand_of new ≡ switched next (stand_of old)
+pub switched_stand : (ps : List Packet) (set next : Choice) (drops : List Removal) (old new : CacheState) → IsCache old → HoldsAll ps set old → same_kinds set next ≡ true → IsRetracked next drops old new → stand_of new ≡ switched next (stand_of old)
 switched_stand ps set next drops old new i h k r =
     let e = switched_is set next old.current i.current (sets_of ps set old.current h.current) k in
     stand_is (option_map as_range new.current) (if is_empty next then None else option_map (keep_tracks next) (option_map as_range old.current)) (map as_range new.others) []
     (ap (λ c. option_map as_range c) r.current_is ∙ empty_is (is_empty next) (option_map (retracked next) old.current) ∙ ap (λ c. if is_empty next then None else c) e)
     (ap (λ rs. map as_range rs) r.no_others)
 
-kept_holds : (ps : List Told) (set next : Choice) (c : Option RangeState) → IfSome c IsRange → IfSome c (HoldsIn ps set) → same_kinds set next ≡ true → IfSome (option_map (retracked next) c) (HoldsIn ps next)
+kept_holds : (ps : List Packet) (set next : Choice) (c : Option RangeState) → IfSome c IsRange → IfSome c (HoldsIn ps set) → same_kinds set next ≡ true → IfSome (option_map (retracked next) c) (HoldsIn ps next)
 kept_holds ps set next None i h k = tt
 kept_holds ps set next (Some r) i h k = let e = h.set_is in record { film = kept_film ps next r i (rw e k) h.film; set_is = refl }
 
-if_holds : (ps : List Told) (set : Choice) (b : Bool) (c : Option RangeState) → IfSome c (HoldsIn ps set) → IfSome (if b then None else c) (HoldsIn ps set)
+if_holds : (ps : List Packet) (set : Choice) (b : Bool) (c : Option RangeState) → IfSome c (HoldsIn ps set) → IfSome (if b then None else c) (HoldsIn ps set)
 if_holds ps set true c h = tt
 if_holds ps set false c h = h
 
-pub switched_holds : (ps : List Told) (set next : Choice) (drops : List Removal) (old new : CacheState) → IsCache old → HoldsAll ps set old → same_kinds set next ≡ true → IsRetracked next drops old new → HoldsAll ps next new
+pub switched_holds : (ps : List Packet) (set next : Choice) (drops : List Removal) (old new : CacheState) → IsCache old → HoldsAll ps set old → same_kinds set next ≡ true → IsRetracked next drops old new → HoldsAll ps next new
 switched_holds ps set next drops old new i h k r =
     let e = r.current_is in
     let o = r.no_others in

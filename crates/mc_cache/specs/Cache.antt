@@ -25,6 +25,18 @@ pub record CacheState : Type 0 where
   pub join_room : ℕ
   pub prepared : Option Prepared
 
+-- a cache of these parts
+abbrev pub cache_of : Limits → Option RangeState → List RangeState → ℕ → ℕ → ℕ → Option Prepared → CacheState
+cache_of limits current others places start_room join_room prepared = record {
+  limits = limits;
+  current = current;
+  others = others;
+  places = places;
+  start_room = start_room;
+  join_room = join_room;
+  prepared = prepared;
+}
+
 -- the same with another current range
 abbrev pub with_current : Option RangeState → CacheState → CacheState
 with_current current st = record st { current = current }

@@ -65,13 +65,17 @@ pub struct Cache {
 
 impl Model for Cache {
     ghost use Rattle.std.specs.Prelude.{vec_capacity};
-    ghost use Rattle.mc_cache.specs.Cache.{CacheState, IsCache};
+    ghost use Rattle.mc_cache.specs.Cache.{CacheState, IsCache, cache_of};
 
     ghost Value = { CacheState };
 
-    ghost view = { λ c. record { limits = c.limits; current = c.current; others = c.others.items; places = vec_capacity c.others; start_room = vec_capacity c.start_drops; join_room = vec_capacity c.join_drops; prepared = c.prepared } };
+    ghost view = { λ c. cache_of c.limits c.current c.others.items
+        (vec_capacity c.others) (vec_capacity c.start_drops)
+        (vec_capacity c.join_drops) c.prepared };
 
-    ghost invariant = { λ c. IsCache (record { limits = c.limits; current = c.current; others = c.others.items; places = vec_capacity c.others; start_room = vec_capacity c.start_drops; join_room = vec_capacity c.join_drops; prepared = c.prepared }) };
+    ghost invariant = { λ c. IsCache (cache_of c.limits c.current c.others.items
+        (vec_capacity c.others) (vec_capacity c.start_drops)
+        (vec_capacity c.join_drops) c.prepared) };
 }
 
 fn mark_in(range: &Option<Range>) -> Option<Mark>
@@ -108,7 +112,8 @@ fn feed_range(range: &mut Range, chunk: Chunk) -> Result<Option<TrackNo>, NoMemo
     requires fits { weight_in range.old + weights chunk.packets < 2 ^ 64 }
     ensures ok { OnOk result (IsFed chunk range.old range.new) }
     ensures taken { IfOk result (λ track. track ≡ taker chunk.packets range.old.queues) }
-    ensures err { OnErr result ((range.new ≡ range.old) × (lacks_room chunk.packets range.old.queues ≡ true)) }
+    ensures err { OnErr result ((range.new ≡ range.old)
+        × (lacks_room chunk.packets range.old.queues ≡ true)) }
     ensures weight { weight_in range.new ≤ weight_in range.old + weights chunk.packets }
     ensures range { IsRange range.new }
 {
@@ -120,10 +125,14 @@ fn feed_in(range: &mut Option<Range>, chunk: Chunk) -> Result<Option<TrackNo>, N
     requires current { IsSomeAnd range.old (λ r. chunk.from ≡ r.mark) }
     requires shape { HasShape chunk }
     requires fits { weight_of (in_front range.old []) + weights chunk.packets < 2 ^ 64 }
-    ensures ok { OnOk result (IsSomeAnd range.old (λ o. IsSomeAnd range.new (λ n. IsFed chunk o n))) }
-    ensures taken { IfOk result (λ track. IfSome range.old (λ r. track ≡ taker chunk.packets r.queues)) }
-    ensures err { OnErr result ((range.new ≡ range.old) × IfSome range.old (λ r. lacks_room chunk.packets r.queues ≡ true)) }
-    ensures weight { weight_of (in_front range.new []) ≤ weight_of (in_front range.old []) + weights chunk.packets }
+    ensures ok { OnOk result
+        (IsSomeAnd range.old (λ o. IsSomeAnd range.new (λ n. IsFed chunk o n))) }
+    ensures taken { IfOk result
+        (λ track. IfSome range.old (λ r. track ≡ taker chunk.packets r.queues)) }
+    ensures err { OnErr result ((range.new ≡ range.old)
+        × IfSome range.old (λ r. lacks_room chunk.packets r.queues ≡ true)) }
+    ensures weight { weight_of (in_front range.new []) ≤ weight_of (in_front range.old [])
+        + weights chunk.packets }
     ensures range { IfSome range.new IsRange }
 {
     match range {
@@ -212,7 +221,8 @@ impl Cache {
     #[tactic(auto, using(crate::proofs::Chosen::kept_out, crate::proofs::Chosen::fewer_of))]
     fn take_server(&mut self, set: Choice, t: i64, dir: Dir) -> Option<Range>
         ensures found { result ≡ find (serves set t dir) self.old.others }
-        ensures left { self.new ≡ with_others (without_first (serves set t dir) self.old.others) self.old }
+        ensures left { self.new
+            ≡ with_others (without_first (serves set t dir) self.old.others) self.old }
         ensures fewer { IfSome result (λ r. Fewer r self.old.others self.new.others) }
         ensures cache { IsCache self.new }
     {
@@ -247,9 +257,11 @@ impl Cache {
         requires shape { HasShape chunk }
         requires fits { weight_of (ranges_of self.old) + weights chunk.packets < 2 ^ 64 }
         ensures ok { OnOk result (Feeds chunk self.old self.new) }
-        ensures taken { IfOk result (λ track. IfSome self.old.current (λ r. track ≡ taker chunk.packets r.queues)) }
+        ensures taken { IfOk result
+            (λ track. IfSome self.old.current (λ r. track ≡ taker chunk.packets r.queues)) }
         ensures err { OnErr result (self.new ≡ self.old) }
-        ensures lacks { OnErr result (IfSome self.old.current (λ r. lacks_room chunk.packets r.queues ≡ true)) }
+        ensures lacks { OnErr result
+            (IfSome self.old.current (λ r. lacks_room chunk.packets r.queues ≡ true)) }
         ensures room { OnOk result (HasRoomToFeed chunk self.old → HasRoomToJoin self.new) }
         ensures cache { IsCache self.new }
     {
@@ -312,7 +324,8 @@ impl Cache {
         requires at_mark { AreAtMark starts.now }
         ensures begun { IsBegun set starts.now result }
         ensures range { IsRange result }
-        ensures ready { IfSome self.old.prepared (λ p. p.starts ≡ starts.now → p.range.set ≡ set → result ≡ p.range) }
+        ensures ready { IfSome self.old.prepared (λ p. p.starts ≡ starts.now → p.range.set ≡ set
+            → result ≡ p.range) }
         ensures same { self.new ≡ with_prepared None self.old }
         ensures cache { IsCache self.new }
     {
@@ -385,8 +398,10 @@ impl Cache {
     fn reserve_to_meet(&mut self, more: u64) -> Result<(), NoMemory>
         requires { more < 2 ^ 60 }
         ensures same { IsSameButRoom self.old self.new }
-        ensures ok { OnOk result ((30 ≤ self.new.join_room) × IfSome self.new.current (λ r. HasRoomFor self.new.others more r)) }
-        ensures within { OnErr result ((30 ≤ self.old.join_room) × IfSome self.old.current (λ r. HasRoomFor self.old.others more r) → ⊥) }
+        ensures ok { OnOk result ((30 ≤ self.new.join_room)
+            × IfSome self.new.current (λ r. HasRoomFor self.new.others more r)) }
+        ensures within { OnErr result ((30 ≤ self.old.join_room)
+            × IfSome self.old.current (λ r. HasRoomFor self.old.others more r) → ⊥) }
         ensures cache { IsCache self.new }
     {
         self.join_drops.clear();

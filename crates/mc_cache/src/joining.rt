@@ -17,11 +17,13 @@ fn join_one(range: &mut Range, mut other: Range, drops: &mut Vec<Removal>) -> u3
     requires fits { weight_in range.old + weight_in other < 2 ^ 64 }
     requires space { HasRoomFor (other ∷ []) 0 range.old }
     requires room { vec_len drops.old + 3 ≤ vec_capacity drops.old }
-    ensures value { (b : Bool) × (result ≡ (if b then 1 else 0)) × JoinsOne range.old other b range.new drops.old.items drops.new.items }
+    ensures value { (b : Bool) × (result ≡ (if b then 1 else 0))
+        × JoinsOne range.old other b range.new drops.old.items drops.new.items }
     ensures one { result ≤ 1 }
     ensures range { IsRange range.new }
     ensures weight { weight_in range.new ≤ weight_in range.old + weight_in other }
-    ensures space { (rs : List RangeState) → HasRoomFor (other ∷ rs) 0 range.old → HasRoomFor rs 0 range.new }
+    ensures space { (rs : List RangeState) → HasRoomFor (other ∷ rs) 0 range.old
+        → HasRoomFor rs 0 range.new }
     ensures few { vec_len drops.new ≤ vec_len drops.old + 3 }
     ensures kept { vec_capacity drops.old ≤ vec_capacity drops.new }
 {
@@ -56,7 +58,8 @@ pub(crate) fn join_all(range: &mut Range, others: &mut Vec<Range>, drops: &mut V
     requires space { HasRoomFor others.old.items 0 range.old }
     requires none { drops.old.items ≡ [] }
     requires room { vec_len drops.old + 3 * length others.old.items ≤ vec_capacity drops.old }
-    ensures value { Joins range.old others.old.items range.new others.new.items result drops.new.items }
+    ensures value { Joins range.old others.old.items range.new others.new.items
+        result drops.new.items }
     ensures last { meets_any range.new others.new.items ≡ false }
     ensures range { IsRange range.new }
     ensures all { AllByRecursion IsOther others.new.items }

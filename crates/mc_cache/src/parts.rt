@@ -40,7 +40,8 @@ fn is_empty(set: Choice) -> bool
 fn retrack(range: &mut Range, set: Choice)
     requires distinct { is_distinct set ≡ true }
     ensures value { range.new ≡ retracked set range.old }
-    ensures weight { weight_of (in_front (Some range.new) []) ≤ weight_of (in_front (Some range.old) []) }
+    ensures weight { weight_of (in_front (Some range.new) [])
+        ≤ weight_of (in_front (Some range.old) []) }
     ensures range { IsRange range.new }
 {
     range.retrack(set);
@@ -49,7 +50,8 @@ fn retrack(range: &mut Range, set: Choice)
 /// Selects other tracks in the current range, which goes where none is selected.
 pub(crate) fn reselect(range: &mut Option<Range>, set: Choice)
     requires distinct { is_distinct set ≡ true }
-    ensures value { range.new ≡ (if is_empty set then None else option_map (retracked set) range.old) }
+    ensures value { range.new
+        ≡ (if is_empty set then None else option_map (retracked set) range.old) }
     ensures weight { weight_of (in_front range.new []) ≤ weight_of (in_front range.old []) }
     ensures number { length (in_front range.new []) ≤ length (in_front range.old []) }
     ensures range { IfSome range.new IsRange }
@@ -88,11 +90,13 @@ pub(crate) fn join_others(
     requires space { IfSome range.old (λ r. HasRoomFor others.old.items 0 r) }
     requires none { drops.old.items ≡ [] }
     requires room { vec_len drops.old + 3 * length others.old.items ≤ vec_capacity drops.old }
-    ensures value { JoinsFrom range.old others.old.items range.new others.new.items result drops.new.items }
+    ensures value { JoinsFrom range.old others.old.items range.new others.new.items
+        result drops.new.items }
     ensures range { IfSome range.new IsRange }
     ensures all { AllByRecursion IsOther others.new.items }
     ensures fits { weight_of (in_front range.new others.new.items) < 2 ^ 64 }
-    ensures few { length (in_front range.new others.new.items) ≤ length (in_front range.old others.old.items) }
+    ensures few { length (in_front range.new others.new.items)
+        ≤ length (in_front range.old others.old.items) }
     ensures kept { vec_capacity others.new ≡ vec_capacity others.old }
 {
     match range {
@@ -108,7 +112,9 @@ pub(crate) fn join_others(
 fn cut_last(mut last: Range, others: &mut Vec<Range>) -> Option<Cut>
     requires some { holds last ≡ true }
     requires room { vec_len others.old < vec_capacity others.old }
-    ensures value { IsSomeAnd result (λ c. (q : RangeState) × IsCut None last q (Some c) × (others.new.items ≡ others.old.items ++ (if holds q then q ∷ [] else [])) × IsRange q × (weight_of (q ∷ []) ≤ weight_of (last ∷ []))) }
+    ensures value { IsSomeAnd result (λ c. (q : RangeState) × IsCut None last q (Some c)
+        × (others.new.items ≡ others.old.items ++ (if holds q then q ∷ [] else []))
+        × IsRange q × (weight_of (q ∷ []) ≤ weight_of (last ∷ []))) }
     ensures kept { vec_capacity others.old ≤ vec_capacity others.new }
 {
     let cut = last.cut(None);
@@ -153,10 +159,13 @@ pub(crate) fn cut_next(
     requires all { AllByRecursion IsOther others.old.items }
     requires over { ahead_in heads.now range.old < weight_of (in_front range.old others.old.items) }
     requires room { length others.old.items ≤ vec_capacity others.old }
-    ensures value { IsSomeAnd result (λ c. CutsRange heads.now range.old others.old.items range.new others.new.items c) }
+    ensures value { IsSomeAnd result
+        (λ c. CutsRange heads.now range.old others.old.items range.new others.new.items c) }
     ensures all { AllByRecursion IsOther others.new.items }
-    ensures weight { weight_of (in_front range.new others.new.items) ≤ weight_of (in_front range.old others.old.items) }
-    ensures number { length (in_front range.new others.new.items) ≤ length (in_front range.old others.old.items) }
+    ensures weight { weight_of (in_front range.new others.new.items)
+        ≤ weight_of (in_front range.old others.old.items) }
+    ensures number { length (in_front range.new others.new.items)
+        ≤ length (in_front range.old others.old.items) }
     ensures range { IfSome range.old IsRange → IfSome range.new IsRange }
     ensures kept { vec_capacity others.old ≤ vec_capacity others.new }
 {

@@ -70,7 +70,8 @@ fn is_same_start(a: Starts, b: Starts) -> bool
 /// The range that is held ready, if it is for this start.
 pub(crate) fn take_if(ready: Option<Prepared>, set: Choice, starts: &Starts) -> Option<Range>
     ensures some { IfSome result (λ r. IsReadyFor set starts.now r ready) }
-    ensures none { IfNone result (IfSome ready (λ p. p.starts ≡ starts.now → p.range.set ≡ set → ⊥)) }
+    ensures none { IfNone result
+        (IfSome ready (λ p. p.starts ≡ starts.now → p.range.set ≡ set → ⊥)) }
 {
     let Prepared {
         starts: kept,

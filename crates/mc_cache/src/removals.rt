@@ -79,7 +79,8 @@ fn push(drops: &mut Vec<Removal>, removal: Option<Removal>)
 #[tactic(auto, using(crate::proofs::Told::told_lost))]
 pub(crate) fn push_lost(drops: &mut Vec<Removal>, range: &Range, cause: Cause, set: Choice)
     requires { vec_len drops.old + 3 ≤ vec_capacity drops.old }
-    ensures items { drops.new.items ≡ drops.old.items ++ removals_in cause (lost_queues set range.now.queues) }
+    ensures items { drops.new.items
+        ≡ drops.old.items ++ removals_in cause (lost_queues set range.now.queues) }
     ensures few { vec_len drops.new ≤ vec_len drops.old + 3 }
     ensures room { vec_capacity drops.old ≤ vec_capacity drops.new }
 {

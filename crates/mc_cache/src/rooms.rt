@@ -67,8 +67,10 @@ fn reserve_track(
     requires fits { weight_of (in_front front.now others.now) < 2 ^ 64 }
     requires few { more < 2 ^ 60 }
     ensures same { IsRoomier range.old range.new }
-    ensures ok { OnOk result (HasSpareFor (in_front front.now others.now) more range.new.queues track) }
-    ensures within { OnErr result (HasSpareFor (in_front front.now others.now) more range.old.queues track → ⊥) }
+    ensures ok { OnOk result
+        (HasSpareFor (in_front front.now others.now) more range.new.queues track) }
+    ensures within { OnErr result
+        (HasSpareFor (in_front front.now others.now) more range.old.queues track → ⊥) }
     ensures range { IsRange range.new }
 {
     match track {
@@ -197,7 +199,8 @@ pub(crate) fn make_ready(
     requires fits { weight_of (in_front front.now others.now) < 2 ^ 64 }
     ensures starts { IfOk result (λ p. p.starts ≡ starts.now) }
     ensures set { IfOk result (λ p. p.range.set ≡ set) }
-    ensures room { IfOk result (λ p. MayTake (vec_capacity drops.new) (in_front front.now others.now) p.range) }
+    ensures room { IfOk result
+        (λ p. MayTake (vec_capacity drops.new) (in_front front.now others.now) p.range) }
     ensures ready { IfOk result IsReady }
     ensures kept { vec_capacity drops.old ≤ vec_capacity drops.new }
 {

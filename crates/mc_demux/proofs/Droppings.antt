@@ -11,7 +11,6 @@ use Rattle.mc_packet.specs.declared.packet.Pos.{Pos}
 use Rattle.mc_packet.specs.declared.choice.Choice.{Choice}
 use Rattle.mc_packet.specs.declared.cache.Heads.{Heads}
 use Rattle.mc_packet.specs.declared.walk.Mark.{Mark}
-use Rattle.mc_journal.specs.Told.{Told, told}
 use Rattle.mc_packet.specs.Choices.{is_distinct, passes}
 use Rattle.mc_journal.specs.Choices.{each_of}
 use Rattle.mc_journal.specs.Films.{rank, first}
@@ -40,9 +39,9 @@ use Rattle.mc_demux.proofs.FilmDrops.{cut_well, cuts_span, cut_below, cut_upto}
 -- ---- a range holds a packet
 
 abbrev pub empty_in : Option QueueState → Bool
-empty_in o = not (is_some (first (map told (packets_in o))))
+empty_in o = not (is_some (first ((packets_in o))))
 
-list_empty : (ps : List Packet) → ((not (is_some (first (map told ps))) ≡ true) × (length ps ≡ 0)) ⊎ ((not (is_some (first (map told ps))) ≡ false) × (1 ≤ length ps))
+list_empty : (ps : List Packet) → ((not (is_some (first (ps))) ≡ true) × (length ps ≡ 0)) ⊎ ((not (is_some (first (ps))) ≡ false) × (1 ≤ length ps))
 list_empty [] = inl (refl, refl)
 list_empty (p ∷ ps) = inr (refl, omega arith)
 
@@ -65,17 +64,17 @@ some_counts v a s = elim (is_empty_in v) [
   ]
 ]
 
-passes_own : (ps : List Told) (r : RangeState) (t : Option ℕ) (m : Mark) (o : Option QueueState) → QueueIn t m o → HoldsFilm ps r
+passes_own : (ps : List Packet) (r : RangeState) (t : Option ℕ) (m : Mark) (o : Option QueueState) → QueueIn t m o → HoldsFilm ps r
     → ((k : ℕ) → t ≡ Some k → queue_of k r.queues ≡ o) → passes t (λ k. not (is_some (first (held (as_range r) ps k)))) ≡ empty_in o
 passes_own ps r None m None i all kind = refl
 passes_own ps r None m (Some q) i all kind = absurd (let e = i.0 in cc)
 passes_own ps r (Some k) m o i all kind =
-    ap (λ (qs : List Told). not (is_some (first qs))) (all k) ∙ ap (λ (x : Option QueueState). empty_in x) (kind k refl)
+    ap (λ (qs : List Packet). not (is_some (first qs))) (all k) ∙ ap (λ (x : Option QueueState). empty_in x) (kind k refl)
 
 no_heads : Heads
 no_heads = record { video = None; audio = None; sub = None }
 
-pub holds_same : (ps : List Told) (set : Choice) (r : RangeState) → IsRange r → r.set ≡ set → HoldsFilm ps r → holds_any ps set (as_range r) ≡ holds r
+pub holds_same : (ps : List Packet) (set : Choice) (r : RangeState) → IsRange r → r.set ≡ set → HoldsFilm ps r → holds_any ps set (as_range r) ≡ holds r
 holds_same ps set r i e all =
     let d : is_distinct set ≡ true = subst (λ (s : Choice). is_distinct s ≡ true) e i.distinct in
     let h : QueuesIn set r.mark r.queues = subst (λ (s : Choice). QueuesIn s r.mark r.queues) e i.held in
@@ -90,10 +89,10 @@ holds_same ps set r i e all =
 
 -- ---- the weight of all
 
-one_weighs : (ps : List Told) (set : Choice) (r : RangeState) → IsRange r → r.set ≡ set → HoldsFilm ps r → range_weight ps set (as_range r) ≡ weight_in r
+one_weighs : (ps : List Packet) (set : Choice) (r : RangeState) → IsRange r → r.set ≡ set → HoldsFilm ps r → range_weight ps set (as_range r) ≡ weight_in r
 one_weighs ps set r i e all = subst (λ (s : Choice). range_weight ps s (as_range r) ≡ weight_in r) e (film_weight ps r i all)
 
-pub all_weigh : (ps : List Told) (set : Choice) (rs : List RangeState) → AllByRecursion IsRange rs → AllByRecursion (λ r. r.set ≡ set) rs → AllByRecursion (HoldsFilm ps) rs
+pub all_weigh : (ps : List Packet) (set : Choice) (rs : List RangeState) → AllByRecursion IsRange rs → AllByRecursion (λ r. r.set ≡ set) rs → AllByRecursion (HoldsFilm ps) rs
     → sum_by (range_weight ps set) (map as_range rs) ≡ weight_of rs
 all_weigh ps set [] i e all = refl
 all_weigh ps set (r ∷ rs) i e all =
@@ -112,13 +111,13 @@ no_bounds set = record { video = of_none set.video; audio = of_none set.audio; s
     of_none None = tt
     of_none (Some k) = refl
 
-pub record LastCut (ps : List Told) (set : Choice) (places : ℕ → ℕ) (place : ℕ) (current : Option Range) (track from to : ℕ) (r : RangeState) (rs new : List RangeState) : Type 0 where
+pub record LastCut (ps : List Packet) (set : Choice) (places : ℕ → ℕ) (place : ℕ) (current : Option Range) (track from to : ℕ) (r : RangeState) (rs new : List RangeState) : Type 0 where
   pub cuts : used.CutsIn ps set places track from to current (as_range r ∷ map as_range rs)
   pub may : MayCut track from to place current (as_range r ∷ map as_range rs)
   pub others_are : filter (holds_any ps set) (cut_last track to (as_range r) (map as_range rs)) ≡ map as_range new
   pub held_all : AllByRecursion (HoldsFilm ps) new
 
-kept_cut : (ps : List Told) (set : Choice) (r : Range) (q : RangeState) (new : List RangeState) → r ≡ as_range q → holds_any ps set (as_range q) ≡ holds q → HoldsFilm ps q
+kept_cut : (ps : List Packet) (set : Choice) (r : Range) (q : RangeState) (new : List RangeState) → r ≡ as_range q → holds_any ps set (as_range q) ≡ holds q → HoldsFilm ps q
     → new ≡ (if holds q then q ∷ [] else []) → (filter (holds_any ps set) (r ∷ []) ≡ map as_range new) × AllByRecursion (HoldsFilm ps) new
 kept_cut ps set r q new e same all is = elim (cases_Bool (holds q)) [
   | inl y ↦
@@ -133,7 +132,7 @@ kept_cut ps set r q new e same all is = elim (cases_Bool (holds q)) [
       (ap (λ (x : Range). filter (holds_any ps set) (x ∷ [])) e ∙ k ∙ sym (ap (λ (xs : List RangeState). map as_range xs) n), subst (λ (xs : List RangeState). AllByRecursion (HoldsFilm ps) xs) (sym n) tt)
 ]
 
-pub last_cut : (ps : List Told) (set : Choice) (places : ℕ → ℕ) (place : ℕ) (current : Option Range) (r : RangeState) (rs new : List RangeState) (c : Cut)
+pub last_cut : (ps : List Packet) (set : Choice) (places : ℕ → ℕ) (place : ℕ) (current : Option Range) (r : RangeState) (rs new : List RangeState) (c : Cut)
     → AllByRecursion IsOther (r ∷ rs) → AllByRecursion (λ r. r.set ≡ set) (r ∷ rs) → AllByRecursion (HoldsFilm ps) (r ∷ rs) → CutsLast (r ∷ rs) new c
     → LastCut ps set places place current c.track (rank c.from) (rank c.to) r rs new
 last_cut ps set places place current r [] new c i e all x =
@@ -186,14 +185,14 @@ still_placed o None hd m e h = tt
 still_placed None (Some q) hd m e h = absurd (cc)
 still_placed (Some r) (Some q) hd m e h = h
 
-pub record CurrentCut (ps : List Told) (set : Choice) (heads : Heads) (places : ℕ → ℕ) (track from to : ℕ) (r q : RangeState) : Type 0 where
+pub record CurrentCut (ps : List Packet) (set : Choice) (heads : Heads) (places : ℕ → ℕ) (track from to : ℕ) (r q : RangeState) : Type 0 where
   pub cut : used.IsCut ps set (λ k. Some (places k)) track from to (as_range r)
   pub onward : from ≤ to
   pub range_is : cut_range track to (as_range r) ≡ as_range q
   pub film : HoldsFilm ps q
   pub placed : PlacesAre set heads places q
 
-pub current_cut : (ps : List Told) (set : Choice) (heads : Heads) (places : ℕ → ℕ) (r q : RangeState) (c : Cut) → IsRange r → r.set ≡ set → HoldsFilm ps r
+pub current_cut : (ps : List Packet) (set : Choice) (heads : Heads) (places : ℕ → ℕ) (r q : RangeState) (c : Cut) → IsRange r → r.set ≡ set → HoldsFilm ps r
     → PlacesAre set heads places r → IsCut (Some heads) r q (Some c) → CurrentCut ps set heads places c.track (rank c.from) (rank c.to) r q
 current_cut ps set heads places r q c i e all at x =
     let d : is_distinct set ≡ true = subst (λ (s : Choice). is_distinct s ≡ true) e i.distinct in

@@ -11,7 +11,6 @@ use Rattle.mc_journal.specs.declared.record.Cause.{Cause}
 use Rattle.mc_journal.specs.declared.record.Cause.TheVariants.{Limit, TooMany, TrackChanged, Mismatch}
 use Rattle.mc_journal.specs.declared.record.DemuxRecord.{DemuxRecord}
 use Rattle.mc_journal.specs.declared.record.DemuxRecord.TheVariants.{Dropped, Ended, Overfull, Faulted, Wanting}
-use Rattle.mc_journal.specs.Told.{Told, told}
 use Rattle.mc_journal.specs.Films.{Film, at, first, rank, track_of}
 use Rattle.mc_journal.specs.Ranges.{Range, Span, in_span, within}
 use Rattle.mc_journal.specs.Stands.{stand, cut_in, cut_range, cut_span, dropped}
@@ -27,7 +26,7 @@ use Rattle.mc_demux.proofs.Laws.{none_told}
 
 -- ---- a span that begins later
 
-first_off : (n : ℕ) (p : Told) (ps : List Told) → first (from_place n (p ∷ ps)) ≡ None → (nat_le n (at p) ≡ false) × (first (from_place n ps) ≡ None)
+first_off : (n : ℕ) (p : Packet) (ps : List Packet) → first (from_place n (p ∷ ps)) ≡ None → (nat_le n (at p) ≡ false) × (first (from_place n ps) ≡ None)
 first_off n p ps e = elim (cases_Bool (nat_le n (at p))) [
   | inl y ↦ absurd (let f : Some p ≡ None = rw y at e in cc)
   | inr o ↦ (o, rw o at e)
@@ -42,7 +41,7 @@ later lo lo' hi m h e = elim (cases_Bool (nat_le lo' m)) [
   | inr o ↦ absurd (let f : false ≡ true = rw o at e in cc)
 ]
 
-fewer_none : (n lo lo' hi : ℕ) (ps : List Told) → lo ≤ lo' → first (from_place n (within lo hi ps)) ≡ None → first (from_place n (within lo' hi ps)) ≡ None
+fewer_none : (n lo lo' hi : ℕ) (ps : List Packet) → lo ≤ lo' → first (from_place n (within lo hi ps)) ≡ None → first (from_place n (within lo' hi ps)) ≡ None
 fewer_none n lo lo' hi [] h e = refl
 fewer_none n lo lo' hi (p ∷ ps) h e = elim (cases_Bool (nat_le lo' (at p) && nat_lt (at p) hi)) [
   | inl y ↦
@@ -57,12 +56,12 @@ fewer_none n lo lo' hi (p ∷ ps) h e = elim (cases_Bool (nat_le lo' (at p) && n
 
 -- ---- a drop
 
-span_none : (n k place from : ℕ) (o : Option Span) (ps : List Told) → IsSomeAnd o (λ s. (s.from ≡ from) × (from ≤ place) × (place ≤ s.to))
+span_none : (n k place from : ℕ) (o : Option Span) (ps : List Packet) → IsSomeAnd o (λ s. (s.from ≡ from) × (from ≤ place) × (place ≤ s.to))
     → first (from_place n (in_span o ps)) ≡ None → first (from_place n (in_span (option_map (cut_span place) o) ps)) ≡ None
 span_none n k place from None ps c e = absurd c
 span_none n k place from (Some s) ps c e = let l : s.from ≤ place = omega (arith, c.0, c.1) in fewer_none n s.from place s.to ps l e
 
-range_none : (ps : List Told) (n k track from place : ℕ) (r : Range) → Cuts track from place r → next_held ps k n (Some r) ≡ None → next_held ps k n (Some (cut_range track place r)) ≡ None
+range_none : (ps : List Packet) (n k track from place : ℕ) (r : Range) → Cuts track from place r → next_held ps k n (Some r) ≡ None → next_held ps k n (Some (cut_range track place r)) ≡ None
 range_none ps n k track from place r c e = elim (cases_Bool (k == track)) [
   | inl y ↦
       let same : k ≡ track = eqb-true k track y in
@@ -70,13 +69,13 @@ range_none ps n k track from place r c e = elim (cases_Bool (k == track)) [
   | inr o ↦ rw o e
 ]
 
-cut_none : (ps : List Told) (n k track from place hd : ℕ) (current : Option Range) (others : List Range) → MayCut track from place hd current others
+cut_none : (ps : List Packet) (n k track from place hd : ℕ) (current : Option Range) (others : List Range) → MayCut track from place hd current others
     → next_held ps k n current ≡ None → next_held ps k n (cut_in track place current others).current ≡ None
 cut_none ps n k track from place hd None [] c e = absurd c.0
 cut_none ps n k track from place hd (Some r) [] c e = range_none ps n k track from place r c.0 e
 cut_none ps n k track from place hd current (q ∷ rs) c e = e
 
-drop_none : (ps : List Told) (h : List DemuxRecord) (n k track from place : ℕ) (cause : Cause) → IsLimit cause → MayDrop ps h track from place cause
+drop_none : (ps : List Packet) (h : List DemuxRecord) (n k track from place : ℕ) (cause : Cause) → IsLimit cause → MayDrop ps h track from place cause
     → next_held ps k n (stand ps h).current ≡ None → next_held ps k n (dropped track place cause (stand ps h)).current ≡ None
 drop_none ps h n k track from place (Limit back max) is may e = cut_none ps n k track from place (head ps track h) (stand ps h).current (stand ps h).others may e
 drop_none ps h n k track from place (TooMany count) is may e = absurd is
@@ -85,7 +84,7 @@ drop_none ps h n k track from place (Mismatch pos ours other) is may e = absurd 
 
 -- ---- an answer and its drops
 
-answer_none : (ps : List Told) (k : ℕ) (own : DemuxRecord) (h : List DemuxRecord) → GivesNone own → next ps h k ≡ None → next ps (own ∷ h) k ≡ None
+answer_none : (ps : List Packet) (k : ℕ) (own : DemuxRecord) (h : List DemuxRecord) → GivesNone own → next ps h k ≡ None → next ps (own ∷ h) k ≡ None
 answer_none ps k (Ended by n ending) h is e = e
 answer_none ps k (Overfull by n forward max) h is e = e
 answer_none ps k (Faulted by n before after) h is e = e
@@ -120,9 +119,9 @@ quiet_is film d e track by own s t w is none =
     let h = own ∷ reverse d.journal in
     let order : reverse e.journal ≡ reverse w.drops ++ h = ap (λ (rs : List DemuxRecord). reverse rs) w.grows ∙ newest_first d.journal w.drops own in
     let may = subst (λ (rs : List DemuxRecord). IsAllowed film rs) order (used-allowed film e.cache.limits (reverse e.journal) t.fits.used) in
-    let old : next film.packets (reverse d.journal) track ≡ None = next_of film d track s ∙ ap (λ (o : Option Packet). option_map told o) none in
+    let old : next film.packets (reverse d.journal) track ≡ None = next_of film d track s ∙ ap (λ (o : Option Packet). o) none in
     let new : next film.packets (reverse w.drops ++ h) track ≡ None =
     drops_none film track by (reverse w.drops) h (all_reversed (IsLimitDrop by) w.drops w.are) may (answer_none film.packets track own (reverse d.journal) is old) in
-    let told_none : option_map told (next_in e.set e.heads track e.cache.current) ≡ None =
+    let told_none : (next_in e.set e.heads track e.cache.current) ≡ None =
     sym (next_of film e track t) ∙ ap (λ (rs : List DemuxRecord). next film.packets rs track) order ∙ new in
     none_told (next_in e.set e.heads track e.cache.current) told_none

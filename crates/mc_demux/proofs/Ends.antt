@@ -10,7 +10,7 @@ use Rattle.mc_packet.specs.declared.walk.Ending.{Ending}
 use Rattle.mc_journal.specs.declared.record.Sought.TheVariants.{Cached, Sent}
 use Rattle.mc_journal.specs.declared.record.DemuxRecord.{DemuxRecord}
 use Rattle.mc_journal.specs.declared.record.DemuxRecord.TheVariants.{Opened, Sought, Switched, Found, Fed, Failed, Starved, Dropped, Joined, Gave, Ended, Overfull, Faulted, Wanting, Shown, Refused}
-use Rattle.mc_journal.specs.Told.{Told}
+use Rattle.mc_packet.specs.declared.packet.Packet.{Packet}
 use Rattle.mc_packet.specs.Choices.{is_track, has}
 use Rattle.mc_journal.specs.Choices.{meets}
 use Rattle.mc_journal.specs.Films.{Film, IsFilm, at, first, first_lane, rank, track_of}
@@ -26,25 +26,25 @@ use Rattle.mc_journal.proofs.Rests.{rest, rest-track}
 
 -- ---- without a packet from the head on there is none to be given
 
-none_left : (n : ℕ) (ps : List Told) → from_place n ps ≡ [] → AllByRecursion (λ p. nat_le n (at p) ≡ false) ps
+none_left : (n : ℕ) (ps : List Packet) → from_place n ps ≡ [] → AllByRecursion (λ p. nat_le n (at p) ≡ false) ps
 none_left n [] e = tt
 none_left n (p ∷ ps) e = elim (cases_Bool (nat_le n (at p))) [
   | inl y ↦ absurd (let f : p ∷ from_place n ps ≡ [] = rw y at e in cc)
   | inr o ↦ (o, none_left n ps (rw o at e))
 ]
 
-none_kept : (n : ℕ) (test : Told → Bool) (ps : List Told) → AllByRecursion (λ p. nat_le n (at p) ≡ false) ps → from_place n (filter test ps) ≡ []
+none_kept : (n : ℕ) (test : Packet → Bool) (ps : List Packet) → AllByRecursion (λ p. nat_le n (at p) ≡ false) ps → from_place n (filter test ps) ≡ []
 none_kept n test [] h = refl
 none_kept n test (p ∷ ps) h = elim (cases_Bool (test p)) [
   | inl y ↦ let off = h.0 in rw (y, off) (none_kept n test ps h.1)
   | inr o ↦ rw o (none_kept n test ps h.1)
 ]
 
-span_left : (n : ℕ) (s : Option Span) (ps : List Told) → AllByRecursion (λ p. nat_le n (at p) ≡ false) ps → from_place n (in_span s ps) ≡ []
+span_left : (n : ℕ) (s : Option Span) (ps : List Packet) → AllByRecursion (λ p. nat_le n (at p) ≡ false) ps → from_place n (in_span s ps) ≡ []
 span_left n None ps h = refl
 span_left n (Some s) ps h = none_kept n (λ p. nat_le s.from (at p) && nat_lt (at p) s.to) ps h
 
-pub rest-none : (ps : List Told) (k n : ℕ) (o : Option Range) → rest k n ps ≡ [] → next_in ps k n o ≡ None
+pub rest-none : (ps : List Packet) (k n : ℕ) (o : Option Range) → rest k n ps ≡ [] → next_in ps k n o ≡ None
 rest-none ps k n None e = refl
 rest-none ps k n (Some r) e =
     ap first (span_left n (r.spans k) (track_of k ps) (none_left n (track_of k ps) (sym (rest-track k n ps) ∙ e)))
@@ -60,12 +60,12 @@ not_blank o true is h = absurd (let e : is_some o ≡ false = ap is_some (h refl
 not_blank o false is h = refl
 
 -- no seek is pending, the track does not wait, and no packet of it is left
-pub record IsDone (ps : List Told) (k : ℕ) (pend waiting : Bool) (place : ℕ) : Type 0 where
+pub record IsDone (ps : List Packet) (k : ℕ) (pend waiting : Bool) (place : ℕ) : Type 0 where
   pub found : pend ≡ false
   pub placed : waiting ≡ false
   pub none : rest k place ps ≡ []
 
-ended_now : (ps : List Told) (E : Ending) (set : Choice) (pend : Bool) (waiting : ℕ → Bool) (place : ℕ → ℕ) (current : Option Range) (k : ℕ) (ending : Ending)
+ended_now : (ps : List Packet) (E : Ending) (set : Choice) (pend : Bool) (waiting : ℕ → Bool) (place : ℕ → ℕ) (current : Option Range) (k : ℕ) (ending : Ending)
     → IfSome current (λ r. IsSound ps E set r × (pend ≡ false) × IsRead set waiting place r) → has set k ≡ true
     → IsSomeAnd current (λ r. (r.ending ≡ Some ending) × (is_some (r.spans k) ≡ true)) → next_in ps k (place k) current ≡ None
     → IsDone ps k pend (waiting k) (place k)

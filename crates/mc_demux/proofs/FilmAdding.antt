@@ -7,7 +7,7 @@ use Rattle.mc_packet.specs.declared.choice.Choice.{Choice}
 use Rattle.mc_packet.specs.declared.choice.Starts.{Starts}
 use Rattle.mc_packet.specs.declared.cache.Heads.{Heads}
 use Rattle.mc_packet.specs.declared.walk.Mark.{Mark}
-use Rattle.mc_journal.specs.Told.{Told, told}
+use Rattle.mc_packet.specs.declared.packet.Packet.{Packet}
 use Rattle.mc_packet.specs.Choices.{or_else, is_track}
 use Rattle.mc_journal.specs.Films.{first_lane, track_of}
 use Rattle.mc_journal.specs.Ranges.{in_span}
@@ -106,16 +106,16 @@ span_all set waiting heads starts r n k i j own a f (of_none x y z) =
 
 -- ---- the film's packets
 
-abbrev Holds : List Told → ℕ → Option QueueState → Type 0
-Holds ps k o = in_span (option_map span_of o) (track_of k ps) ≡ map told (packets_in o)
+abbrev Holds : List Packet → ℕ → Option QueueState → Type 0
+Holds ps k o = in_span (option_map span_of o) (track_of k ps) ≡ (packets_in o)
 
-added_holds : (ps : List Told) (k : ℕ) (w s : Option ℕ) (o n : Option QueueState) → AddedIn w s o n → IfSome n (λ q. q.track ≡ k) → Holds ps k o → Holds ps k n
+added_holds : (ps : List Packet) (k : ℕ) (w s : Option ℕ) (o n : Option QueueState) → AddedIn w s o n → IfSome n (λ q. q.track ≡ k) → Holds ps k o → Holds ps k n
 added_holds ps k None s o n a t h = subst (λ (x : Option QueueState). Holds ps k x) (sym a) h
 added_holds ps k (Some w) None o n a t h = subst (λ (x : Option QueueState). Holds ps k x) (sym a) h
 added_holds ps k (Some w) (Some s) o None a t h = absurd a
 added_holds ps k (Some w) (Some s) o (Some q) a t h = blank_held ps k (Some q) (t, new_blank w s q a)
 
-holds_one : (ps : List Told) (k : ℕ) (t : Option ℕ) (m : Mark) (w s : Option ℕ) (o n qo qn : Option QueueState) → AddedIn w s o n → QueueIn t m n → t ≡ Some k → qo ≡ o → qn ≡ n → Holds ps k qo → Holds ps k qn
+holds_one : (ps : List Packet) (k : ℕ) (t : Option ℕ) (m : Mark) (w s : Option ℕ) (o n qo qn : Option QueueState) → AddedIn w s o n → QueueIn t m n → t ≡ Some k → qo ≡ o → qn ≡ n → Holds ps k qo → Holds ps k qn
 holds_one ps k t m w s o n qo qn a i e x y h =
     subst (λ (z : Option QueueState). Holds ps k z) (sym y) (added_holds ps k w s o n a (own_track n i) (subst (λ (z : Option QueueState). Holds ps k z) x h))
   where
@@ -126,7 +126,7 @@ holds_one ps k t m w s o n qo qn a i e x y h =
     own_track None i = tt
     own_track (Some q) i = some q.track k (sym i.0 ∙ e)
 
-holds_all : (ps : List Told) (set waiting : Choice) (heads : Heads) (starts : Starts) (r n : RangeState) (k : ℕ) → IsRange r → IsRange n → r.set ≡ set → AllAdded waiting starts r n → HoldsFilm ps r → OfKind set k
+holds_all : (ps : List Packet) (set waiting : Choice) (heads : Heads) (starts : Starts) (r n : RangeState) (k : ℕ) → IsRange r → IsRange n → r.set ≡ set → AllAdded waiting starts r n → HoldsFilm ps r → OfKind set k
     → Holds ps k (queue_of k n.queues)
 holds_all ps set waiting heads starts r n k i j own a h (of_video e) =
     holds_one ps k set.video n.mark waiting.video starts.video r.queues.video n.queues.video (queue_of k r.queues) (queue_of k n.queues) a.video (in_set set n j (a.set_is ∙ own)).video e
@@ -141,5 +141,5 @@ holds_all ps set waiting heads starts r n k i j own a h (of_none x y z) =
     let v = no_queue set n.mark n.queues k (in_set set n j (a.set_is ∙ own)) x y z in
     subst (λ (o : Option QueueState). Holds ps k o) (sym v) refl
 
-pub added_film : (ps : List Told) (set waiting : Choice) (heads : Heads) (starts : Starts) (r n : RangeState) → IsRange r → IsRange n → r.set ≡ set → AllAdded waiting starts r n → HoldsFilm ps r → HoldsFilm ps n
+pub added_film : (ps : List Packet) (set waiting : Choice) (heads : Heads) (starts : Starts) (r n : RangeState) → IsRange r → IsRange n → r.set ≡ set → AllAdded waiting starts r n → HoldsFilm ps r → HoldsFilm ps n
 added_film ps set waiting heads starts r n i j own a h = λ k. holds_all ps set waiting heads starts r n k i j own a h (of_kind set k)

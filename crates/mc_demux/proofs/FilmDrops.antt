@@ -13,7 +13,6 @@ use Rattle.mc_packet.specs.declared.choice.Kind.TheVariants.{Video, Audio, Sub}
 use Rattle.mc_packet.specs.declared.choice.Choice.{Choice}
 use Rattle.mc_packet.specs.declared.cache.Heads.{Heads}
 use Rattle.mc_packet.specs.declared.walk.Mark.{Mark}
-use Rattle.mc_journal.specs.Told.{Told, told}
 use Rattle.mc_packet.specs.Choices.{has, is_distinct, passes}
 use Rattle.mc_journal.specs.Choices.{each_of}
 use Rattle.mc_journal.specs.Films.{at, rank, first, track_of}
@@ -114,7 +113,7 @@ cut_well heads r q c i x =
 
 -- ---- the cut of the definitions lies in the span
 
-within_high : (from to : ℕ) (ps : List Told) → AllByRecursion (λ p. at p < to) (within from to ps)
+within_high : (from to : ℕ) (ps : List Packet) → AllByRecursion (λ p. at p < to) (within from to ps)
 within_high from to [] = tt
 within_high from to (p ∷ ps) =
     let more = within_high from to ps in
@@ -125,11 +124,11 @@ within_high from to (p ∷ ps) =
       | inr n ↦ elim (cases_Bool (nat_le from (at p))) [ inl z ↦ rw (z, n) more | inr o ↦ rw o more ]
     ]
 
-next_within : (to : ℕ) (ps : List Told) → AllByRecursion (λ p. at p < to) ps → used.next_sync to ps ≤ to
+next_within : (to : ℕ) (ps : List Packet) → AllByRecursion (λ p. at p < to) ps → used.next_sync to ps ≤ to
 next_within to [] h = omega arith
 next_within to (p ∷ ps) h = of_first to ps h.1
   where
-    of_first : (to : ℕ) (ps : List Told) → AllByRecursion (λ p. at p < to) ps → option_map_or at (first (filter (λ q. q.sync) ps)) to ≤ to
+    of_first : (to : ℕ) (ps : List Packet) → AllByRecursion (λ p. at p < to) ps → option_map_or at (first (filter (λ q. q.sync) ps)) to ≤ to
     of_first to [] h = omega arith
     of_first to (q ∷ qs) h =
         let l = h.0 in
@@ -140,7 +139,7 @@ at_most_within : (o : Option ℕ) (n : ℕ) → used.at_most o n ≤ n
 at_most_within None n = omega arith
 at_most_within (Some m) n = omega arith
 
-span_cuts : (o : Option Span) (ps : List Told) (upto : Option ℕ) (from to : ℕ) → from ≤ to
+span_cuts : (o : Option Span) (ps : List Packet) (upto : Option ℕ) (from to : ℕ) → from ≤ to
     → IsSomeAnd o (λ s. (from ≡ s.from) × (to ≡ used.at_most upto (used.next_sync s.to (in_span o ps))))
     → IsSomeAnd o (λ s. (s.from ≡ from) × (from ≤ to) × (to ≤ s.to))
 span_cuts None ps upto from to l h = absurd h
@@ -150,20 +149,20 @@ span_cuts (Some s) ps upto from to l h =
     let e = h.1 in
     (sym h.0, l, omega arith)
 
-pub cuts_span : (ps : List Told) (set : Choice) (upto : ℕ → Option ℕ) (track from to : ℕ) (r : Range) → from ≤ to → used.IsCut ps set upto track from to r
+pub cuts_span : (ps : List Packet) (set : Choice) (upto : ℕ → Option ℕ) (track from to : ℕ) (r : Range) → from ≤ to → used.IsCut ps set upto track from to r
     → CutsSpan track from to r
 cuts_span ps set upto track from to r l h = span_cuts (r.spans track) (track_of track ps) (upto track) from to l h.1
 
-below_bound : (o : Option Span) (xs : List Told) (n from to : ℕ) → IsSomeAnd o (λ s. (from ≡ s.from) × (to ≡ used.at_most (Some n) (used.next_sync s.to xs))) → to ≤ n
+below_bound : (o : Option Span) (xs : List Packet) (n from to : ℕ) → IsSomeAnd o (λ s. (from ≡ s.from) × (to ≡ used.at_most (Some n) (used.next_sync s.to xs))) → to ≤ n
 below_bound None xs n from to h = absurd h
 below_bound (Some s) xs n from to h = let e = h.1 in omega arith
 
-pub cut_below : (ps : List Told) (set : Choice) (place : ℕ → ℕ) (track from to : ℕ) (r : Range) → used.IsCut ps set (λ k. Some (place k)) track from to r → to ≤ place track
+pub cut_below : (ps : List Packet) (set : Choice) (place : ℕ → ℕ) (track from to : ℕ) (r : Range) → used.IsCut ps set (λ k. Some (place k)) track from to r → to ≤ place track
 cut_below ps set place track from to r h = below_bound (r.spans track) (held r ps track) (place track) from to h.1
 
 -- ---- a bound of a track without a queue is none
 
-cuttable_same : (ps : List Told) (o : Option QueueState) (xs : List Told) (a b : Option ℕ) → xs ≡ map told (packets_in o) → IfSome o (λ q. a ≡ b)
+cuttable_same : (ps : List Packet) (o : Option QueueState) (xs : List Packet) (a b : Option ℕ) → xs ≡ (packets_in o) → IfSome o (λ q. a ≡ b)
     → used.cuttable a xs ≡ used.cuttable b xs
 cuttable_same ps None xs a b e h = rw e (none a b)
   where
@@ -174,31 +173,31 @@ cuttable_same ps None xs a b e h = rw e (none a b)
     none (Some m) (Some n) = refl
 cuttable_same ps (Some q) xs a b e h = ap (λ (o : Option ℕ). used.cuttable o xs) h
 
-first_same : (ps : List Told) (r : RangeState) (upto upto' : ℕ → Option ℕ) (o : Option ℕ) → HoldsFilm ps r
+first_same : (ps : List Packet) (r : RangeState) (upto upto' : ℕ → Option ℕ) (o : Option ℕ) → HoldsFilm ps r
     → ((k : ℕ) → IfSome (queue_of k r.queues) (λ q. upto k ≡ upto' k)) → used.cut_first ps upto (as_range r) o ≡ used.cut_first ps upto' (as_range r) o
 first_same ps r upto upto' None all h = refl
 first_same ps r upto upto' (Some k) all h = cuttable_same ps (queue_of k r.queues) (held (as_range r) ps k) (upto k) (upto' k) (all k) (h k)
 
-victim_same : (ps : List Told) (set : Choice) (r : RangeState) (upto upto' : ℕ → Option ℕ) → HoldsFilm ps r
+victim_same : (ps : List Packet) (set : Choice) (r : RangeState) (upto upto' : ℕ → Option ℕ) → HoldsFilm ps r
     → ((k : ℕ) → IfSome (queue_of k r.queues) (λ q. upto k ≡ upto' k)) → used.victim ps set upto (as_range r) ≡ used.victim ps set upto' (as_range r)
 victim_same ps set r upto upto' all h =
     let v = first_same ps r upto upto' set.video all h in
     let a = first_same ps r upto upto' set.audio all h in
     let s = first_same ps r upto upto' set.sub all h in
-    ap (λ (x : Option Told). used.earlier x (used.earlier (used.cut_first ps upto (as_range r) set.audio) (used.cut_first ps upto (as_range r) set.sub))) v
-    ∙ ap (λ (x : Option Told). used.earlier (used.cut_first ps upto' (as_range r) set.video) (used.earlier x (used.cut_first ps upto (as_range r) set.sub))) a
-    ∙ ap (λ (x : Option Told). used.earlier (used.cut_first ps upto' (as_range r) set.video) (used.earlier (used.cut_first ps upto' (as_range r) set.audio) x)) s
+    ap (λ (x : Option Packet). used.earlier x (used.earlier (used.cut_first ps upto (as_range r) set.audio) (used.cut_first ps upto (as_range r) set.sub))) v
+    ∙ ap (λ (x : Option Packet). used.earlier (used.cut_first ps upto' (as_range r) set.video) (used.earlier x (used.cut_first ps upto (as_range r) set.sub))) a
+    ∙ ap (λ (x : Option Packet). used.earlier (used.cut_first ps upto' (as_range r) set.video) (used.earlier (used.cut_first ps upto' (as_range r) set.audio) x)) s
 
-part_same : (o : Option QueueState) (a b : Option ℕ) (xs : List Told) (from to : ℕ) → IfSome o (λ q. a ≡ b)
+part_same : (o : Option QueueState) (a b : Option ℕ) (xs : List Packet) (from to : ℕ) → IfSome o (λ q. a ≡ b)
     → IsSomeAnd (option_map span_of o) (λ s. (from ≡ s.from) × (to ≡ used.at_most a (used.next_sync s.to xs)))
     → IsSomeAnd (option_map span_of o) (λ s. (from ≡ s.from) × (to ≡ used.at_most b (used.next_sync s.to xs)))
 part_same None a b xs from to h x = absurd x
 part_same (Some q) a b xs from to h x = (x.0, x.1 ∙ ap (λ (o : Option ℕ). used.at_most o (used.next_sync (rank q.to) xs)) h)
 
-pub cut_upto : (ps : List Told) (set : Choice) (r : RangeState) (upto upto' : ℕ → Option ℕ) (track from to : ℕ) → HoldsFilm ps r
+pub cut_upto : (ps : List Packet) (set : Choice) (r : RangeState) (upto upto' : ℕ → Option ℕ) (track from to : ℕ) → HoldsFilm ps r
     → ((k : ℕ) → IfSome (queue_of k r.queues) (λ q. upto k ≡ upto' k))
     → used.IsCut ps set upto track from to (as_range r) → used.IsCut ps set upto' track from to (as_range r)
 cut_upto ps set r upto upto' track from to all h x = (
-  subst (λ (o : Option Told). IsSomeAnd o (λ p. p.track ≡ track)) (victim_same ps set r upto upto' all h) x.0,
+  subst (λ (o : Option Packet). IsSomeAnd o (λ p. p.track ≡ track)) (victim_same ps set r upto upto' all h) x.0,
   part_same (queue_of track r.queues) (upto track) (upto' track) (held (as_range r) ps track) from to (h track) x.1,
 )

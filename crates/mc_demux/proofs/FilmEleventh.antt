@@ -14,7 +14,6 @@ use Rattle.mc_journal.specs.declared.record.Cause.TheVariants.{TooMany}
 use Rattle.mc_journal.specs.declared.record.DemuxRecord.{DemuxRecord}
 use Rattle.mc_journal.specs.declared.record.DemuxRecord.TheVariants.{Dropped}
 use Rattle.mc_journal.specs.declared.record.Removal.{Removal}
-use Rattle.mc_journal.specs.Told.{Told, told}
 use Rattle.mc_journal.specs.Films.{Film, first, rank}
 use Rattle.mc_journal.specs.Ranges.{held}
 use Rattle.mc_journal.specs.Readings.{selected}
@@ -52,11 +51,11 @@ put_many [] es = refl
 put_many (d ∷ ds) es = put_one d (put_all ds es) ∙ ap (λ xs. used.put_in (due_of d) xs) (put_many ds es)
 
 due_packets : (cause : Cause) (k : ℕ) (q : QueueState) (ps : List Packet) → k ≡ q.track → q.packets ≡ ps
-    → used.due_span cause k (Some (record { from = rank q.from; to = rank q.to })) (is_some (first (map told q.packets))) ≡ map due_of (removal_in cause (Some q))
+    → used.due_span cause k (Some (record { from = rank q.from; to = rank q.to })) (is_some (first (q.packets))) ≡ map due_of (removal_in cause (Some q))
 due_packets cause k q [] e f = rw (e, f) refl
 due_packets cause k q (p ∷ ps) e f = rw (e, f) refl
 
-due_kind : (cause : Cause) (ps : List Told) (r : RangeState) (t : Option ℕ) (q : Option QueueState) → HoldsFilm ps r → QueueIn t r.mark q → ((k : ℕ) → t ≡ Some k → queue_of k r.queues ≡ q)
+due_kind : (cause : Cause) (ps : List Packet) (r : RangeState) (t : Option ℕ) (q : Option QueueState) → HoldsFilm ps r → QueueIn t r.mark q → ((k : ℕ) → t ≡ Some k → queue_of k r.queues ≡ q)
     → used.due_track cause ps (as_range r) t ≡ map due_of (removal_in cause q)
 due_kind cause ps r None None h i f = refl
 due_kind cause ps r None (Some q) h i f = absurd (let e = i.0 in cc)
@@ -64,15 +63,15 @@ due_kind cause ps r (Some k) None h i f = let e = f k refl in rw e refl
 due_kind cause ps r (Some k) (Some q) h i f =
     let e = f k refl in
     let same : k ≡ q.track = some k q.track i.0 in
-    let all : held (as_range r) ps k ≡ map told q.packets = h k ∙ ap (λ (o : Option QueueState). map told (packets_in o)) e in
-    ap (λ (xs : List Told). used.due_span cause k ((as_range r).spans k) (is_some (first xs))) all
-    ∙ ap (λ (o : Option QueueState). used.due_span cause k (option_map span_of o) (is_some (first (map told q.packets)))) e
+    let all : held (as_range r) ps k ≡ q.packets = h k ∙ ap (λ (o : Option QueueState). (packets_in o)) e in
+    ap (λ (xs : List Packet). used.due_span cause k ((as_range r).spans k) (is_some (first xs))) all
+    ∙ ap (λ (o : Option QueueState). used.due_span cause k (option_map span_of o) (is_some (first (q.packets)))) e
     ∙ due_packets cause k q q.packets same refl
   where
     some : (a b : ℕ) → Some a ≡ Some b → a ≡ b
     some a b e = cc
 
-due_one : (cause : Cause) (ps : List Told) (r : RangeState) → IsRange r → HoldsFilm ps r → used.due_range cause ps r.set (as_range r) ≡ map due_of (removals_of cause r)
+due_one : (cause : Cause) (ps : List Packet) (r : RangeState) → IsRange r → HoldsFilm ps r → used.due_range cause ps r.set (as_range r) ≡ map due_of (removals_of cause r)
 due_one cause ps r i h =
     let v = due_kind cause ps r r.set.video r.queues.video h i.held.video (λ k e. video_is r k i e) in
     let a = due_kind cause ps r r.set.audio r.queues.audio h i.held.audio (λ k e. audio_is r k i e) in
@@ -83,7 +82,7 @@ due_one cause ps r i h =
     ∙ ap (λ xs. used.put_all (map due_of (removal_in cause r.queues.video)) xs) (sym (put_many (removal_in cause r.queues.audio) (removal_in cause r.queues.sub)))
     ∙ sym (put_many (removal_in cause r.queues.video) (put_all (removal_in cause r.queues.audio) (removal_in cause r.queues.sub)))
 
-due_all : (cause : Cause) (ps : List Told) (set : Choice) (rs : List RangeState) → AllByRecursion IsOther rs → AllByRecursion (HoldsIn ps set) rs
+due_all : (cause : Cause) (ps : List Packet) (set : Choice) (rs : List RangeState) → AllByRecursion IsOther rs → AllByRecursion (HoldsIn ps set) rs
     → used.due_ranges cause ps set (map as_range rs) ≡ map due_of (removals_of_all cause rs)
 due_all cause ps set [] i h = refl
 due_all cause ps set (r ∷ rs) i h =
@@ -104,7 +103,7 @@ dropped_all P (suc n) [] a = tt
 dropped_all P (suc n) (r ∷ rs) a = dropped_all P n rs a.1
 
 -- those of the tenth of the others
-pub due_eleventh : (ps : List Told) (set : Choice) (rs : List RangeState) → AllByRecursion IsOther rs → AllByRecursion (HoldsIn ps set) rs
+pub due_eleventh : (ps : List Packet) (set : Choice) (rs : List RangeState) → AllByRecursion IsOther rs → AllByRecursion (HoldsIn ps set) rs
     → used.due_ranges (TooMany 11) ps set (drop 9 (map as_range rs)) ≡ map due_of (removals_of_all (TooMany 11) (drop 9 rs))
 due_eleventh ps set rs i h =
     ap (λ xs. used.due_ranges (TooMany 11) ps set xs) (dropped_map 9 rs)

@@ -10,7 +10,7 @@ use Rattle.mc_packet.specs.declared.cache.Limits.{Limits}
 use Rattle.mc_journal.specs.declared.record.DemuxRecord.{DemuxRecord}
 use Rattle.mc_journal.specs.declared.record.DemuxRecord.TheVariants.{Joined}
 use Rattle.mc_journal.specs.declared.record.Removal.{Removal}
-use Rattle.mc_journal.specs.Told.{Told}
+use Rattle.mc_packet.specs.declared.packet.Packet.{Packet}
 use Rattle.mc_journal.specs.Films.{Film}
 use Rattle.mc_journal.specs.Ranges.{touches}
 use Rattle.mc_journal.specs.Readings.{selected}
@@ -39,16 +39,16 @@ use Rattle.mc_demux.proofs.SameTracks.{joined_tracks, places_same}
 
 -- ---- ranges that hold the film's packets
 
-pub films_of : (ps : List Told) (set : Choice) (rs : List RangeState) → AllByRecursion (HoldsIn ps set) rs → AllByRecursion (HoldsFilm ps) rs
+pub films_of : (ps : List Packet) (set : Choice) (rs : List RangeState) → AllByRecursion (HoldsIn ps set) rs → AllByRecursion (HoldsFilm ps) rs
 films_of ps set [] a = tt
 films_of ps set (r ∷ rs) a = (a.0.film, films_of ps set rs a.1)
 
-pub holds_in : (ps : List Told) (set : Choice) (rs : List RangeState) → AllByRecursion (HoldsFilm ps) rs → AllByRecursion (λ r. r.set ≡ set) rs → AllByRecursion (HoldsIn ps set) rs
+pub holds_in : (ps : List Packet) (set : Choice) (rs : List RangeState) → AllByRecursion (HoldsFilm ps) rs → AllByRecursion (λ r. r.set ≡ set) rs → AllByRecursion (HoldsIn ps set) rs
 holds_in ps set [] a b = tt
 holds_in ps set (r ∷ rs) a b = (record { film = a.0; set_is = b.0 }, holds_in ps set rs a.1 b.1)
 
 -- others hold a packet, so that none goes
-pub others_stay : (ps : List Told) (set : Choice) (rs : List RangeState) → AllByRecursion IsOther rs → AllByRecursion (HoldsIn ps set) rs
+pub others_stay : (ps : List Packet) (set : Choice) (rs : List RangeState) → AllByRecursion IsOther rs → AllByRecursion (HoldsIn ps set) rs
     → filter (holds_any ps set) (map as_range rs) ≡ map as_range rs
 others_stay ps set [] a b = refl
 others_stay ps set (r ∷ rs) a b =
@@ -64,10 +64,10 @@ same_track (Some k) = eq-eqb k k refl
 same_set : (set : Choice) → is_same_set set set ≡ true
 same_set set = let v = same_track set.video in let a = same_track set.audio in let s = same_track set.sub in rw (v, a, s) refl
 
-meets_is : (ps : List Told) (set : Choice) (r q : RangeState) → r.set ≡ set → q.set ≡ set → meets_range r q ≡ touches set (as_range r) (as_range q)
+meets_is : (ps : List Packet) (set : Choice) (r q : RangeState) → r.set ≡ set → q.set ≡ set → meets_range r q ≡ touches set (as_range r) (as_range q)
 meets_is ps set r q e f = let s = same_set set in rw (e, f) (rw s refl)
 
-pub none_touches : (ps : List Told) (set : Choice) (r : RangeState) (rs : List RangeState) → r.set ≡ set → AllByRecursion (HoldsIn ps set) rs → list_any (meets_range r) rs ≡ false
+pub none_touches : (ps : List Packet) (set : Choice) (r : RangeState) (rs : List RangeState) → r.set ≡ set → AllByRecursion (HoldsIn ps set) rs → list_any (meets_range r) rs ≡ false
     → first_that (touches set (as_range r)) (map as_range rs) ≡ None
 none_touches ps set r [] e a n = refl
 none_touches ps set r (q ∷ rs) e a n = elim (cases_Bool (meets_range r q)) [
@@ -170,7 +170,7 @@ next_times n set st = let e : n + 1 ≡ suc n = omega arith in rw e refl
 last_touch : (n : ℕ) (set : Choice) (st : Stand) → AreTouched (n + 1) set st → touched set (joined_times n set st).others (joined_times n set st).current ≡ true
 last_touch n set st a = let e : n + 1 ≡ suc n = omega arith in let b : AreTouched (suc n) set st = rw e at a in b.1
 
-found_film : (ps : List Told) (set : Choice) (test : RangeState → Bool) (rs : List RangeState) (o : RangeState) → AllByRecursion (HoldsIn ps set) rs → find test rs ≡ Some o → HoldsIn ps set o
+found_film : (ps : List Packet) (set : Choice) (test : RangeState → Bool) (rs : List RangeState) (o : RangeState) → AllByRecursion (HoldsIn ps set) rs → find test rs ≡ Some o → HoldsIn ps set o
 found_film ps set test rs o a e = let g = all_find (HoldsIn ps set) test rs a in rw e at g
 
 pub joins_fit : (film : Film) (limits : Limits) (set : Choice) (first : RangeState) (beside : List RangeState) (r : RangeState) (rs : List RangeState) (heads : Heads)

@@ -12,7 +12,6 @@ use Rattle.mc_packet.specs.declared.walk.Chunk.{Chunk}
 use Rattle.mc_packet.specs.declared.walk.Mark.{Mark}
 use Rattle.mc_journal.specs.declared.record.DemuxRecord.{DemuxRecord}
 use Rattle.mc_journal.specs.declared.record.DemuxRecord.TheVariants.{Fed}
-use Rattle.mc_journal.specs.Told.{Told, told}
 use Rattle.mc_packet.specs.Choices.{or_else}
 use Rattle.mc_journal.specs.Choices.{kept_of, kept_track}
 use Rattle.mc_journal.specs.Films.{Film, at, rank, first, first_lane, track_of}
@@ -51,19 +50,19 @@ use Rattle.mc_demux.proofs.Settled.{settled}
 
 -- ---- which track takes packets
 
-told_news : (ps : List Told) (q : QueueState) (a b : ℕ) (cs : List Packet) → map told cs ≡ within a b ps → a ≤ rank q.to
-    → map told (news cs q) ≡ within (rank q.to) b (track_of q.track ps)
+told_news : (ps : List Packet) (q : QueueState) (a b : ℕ) (cs : List Packet) → cs ≡ within a b ps → a ≤ rank q.to
+    → (news cs q) ≡ within (rank q.to) b (track_of q.track ps)
 told_news ps q a b cs e l =
     told_kept (is_from (rank q.to)) (λ p. nat_le (rank q.to) (at p)) (λ p. refl) (of_track q.track cs)
     ∙ ap (λ xs. from_place (rank q.to) xs) (told_kept (λ p. p.track == q.track) (λ p. p.track == q.track) (λ p. refl) cs
     ∙ ap (λ xs. track_of q.track xs) e ∙ kept_swap (λ p. p.track == q.track) _ ps)
     ∙ within-cut a (rank q.to) b (track_of q.track ps) l
 
-track_told : (track : ℕ) (cs : List Packet) → track_with track cs ≡ (if is_some (first (map told cs)) then Some track else None)
+track_told : (track : ℕ) (cs : List Packet) → track_with track cs ≡ (if is_some (first (cs)) then Some track else None)
 track_told track [] = refl
 track_told track (c ∷ cs) = refl
 
-if_gains : (ps : List Told) (q : QueueState) (b : ℕ) → is_some (first (within (rank q.to) (first_lane b) (track_of q.track ps))) ≡ gains ps b q.track (Some (span_of q))
+if_gains : (ps : List Packet) (q : QueueState) (b : ℕ) → is_some (first (within (rank q.to) (first_lane b) (track_of q.track ps))) ≡ gains ps b q.track (Some (span_of q))
 if_gains ps q b = elim (cases_Bool (nat_le (rank q.to) (first_lane b))) [
   | inl y ↦ rw y refl
   | inr n ↦
@@ -73,7 +72,7 @@ if_gains ps q b = elim (cases_Bool (nat_le (rank q.to) (first_lane b))) [
       rw (n, one, two) refl
 ]
 
-kind_takes : (ps : List Told) (r : RangeState) (a b : ℕ) (cs : List Packet) (track : Option ℕ) (q : Option QueueState) → map told cs ≡ within a (first_lane b) ps → a ≡ first_lane r.mark.pos
+kind_takes : (ps : List Packet) (r : RangeState) (a b : ℕ) (cs : List Packet) (track : Option ℕ) (q : Option QueueState) → cs ≡ within a (first_lane b) ps → a ≡ first_lane r.mark.pos
     → QueueIn track r.mark q → ((k : ℕ) → track ≡ Some k → queue_of k r.queues ≡ q)
     → takes cs q ≡ kept_track (λ k. gains_in ps b (Some (as_range r)) k) track
 kind_takes ps r a b cs None None e m i f = refl
@@ -86,7 +85,7 @@ kind_takes ps r a b cs (Some k) (Some q) e m i f =
     let l : a ≤ rank q.to = rw m reach in
     let all : track_with q.track (news cs q) ≡ (if gains ps b q.track (Some (span_of q)) then Some q.track else None) =
     track_told q.track (news cs q)
-    ∙ ap (λ (xs : List Told). if is_some (first xs) then Some q.track else None) (told_news ps q a (first_lane b) cs e l)
+    ∙ ap (λ (xs : List Packet). if is_some (first xs) then Some q.track else None) (told_news ps q a (first_lane b) cs e l)
     ∙ ap (λ (t : Bool). if t then Some q.track else None) (if_gains ps q b) in
     rw x (subst (λ (n : ℕ). track_with q.track (news cs q) ≡ (if gains ps b n (Some (span_of q)) then Some n else None)) (sym same) all)
   where
@@ -96,7 +95,7 @@ kind_takes ps r a b cs (Some k) (Some q) e m i f =
 or_is : (a b c x y z : Option ℕ) → a ≡ x → b ≡ y → c ≡ z → or_else a (or_else b c) ≡ or_else x (or_else y z)
 or_is a b c x y z e f g = rw (e, f, g) refl
 
-range_takes : (ps : List Told) (r : RangeState) (c : Chunk) → IsPart ps c → c.from ≡ r.mark → IsRange r
+range_takes : (ps : List Packet) (r : RangeState) (c : Chunk) → IsPart ps c → c.from ≡ r.mark → IsRange r
     → taker c.packets r.queues ≡ any_track (kept_of r.set (gains_in ps c.to.pos (Some (as_range r))))
 range_takes ps r c p m i =
     let from : first_lane c.from.pos ≡ first_lane r.mark.pos = ap (λ (x : Mark). first_lane x.pos) m in
@@ -108,7 +107,7 @@ range_takes ps r c p m i =
 some_mark : (a b : Mark) → Some a ≡ Some b → a ≡ b
 some_mark a b e = cc
 
-took_takes : (ps : List Told) (set : Choice) (c : Chunk) (o : Option RangeState) → IsPart ps c → mark_in o ≡ Some c.from → IfSome o IsRange → IfSome o (λ r. r.set ≡ set)
+took_takes : (ps : List Packet) (set : Choice) (c : Chunk) (o : Option RangeState) → IsPart ps c → mark_in o ≡ Some c.from → IfSome o IsRange → IfSome o (λ r. r.set ≡ set)
     → took_in c o ≡ any_track (kept_of set (gains_in ps c.to.pos (option_map as_range o)))
 took_takes ps set c None p m i e = absurd (cc)
 took_takes ps set c (Some r) p m i e =
@@ -162,11 +161,11 @@ front_parts : (P : RangeState → Type 0) (o : Option RangeState) (rs : List Ran
 front_parts P None rs h = (tt, h)
 front_parts P (Some r) rs h = h
 
-current_holds : (ps : List Told) (set : Choice) (o : Option RangeState) → IfSome o (HoldsFilm ps) → IfSome o (λ r. r.set ≡ set) → IfSome o (HoldsIn ps set)
+current_holds : (ps : List Packet) (set : Choice) (o : Option RangeState) → IfSome o (HoldsFilm ps) → IfSome o (λ r. r.set ≡ set) → IfSome o (HoldsIn ps set)
 current_holds ps set None h e = tt
 current_holds ps set (Some r) h e = record { film = h; set_is = e }
 
-pub current_film : (ps : List Told) (set : Choice) (o : Option RangeState) → IfSome o (HoldsIn ps set) → IfSome o (HoldsFilm ps)
+pub current_film : (ps : List Packet) (set : Choice) (o : Option RangeState) → IfSome o (HoldsIn ps set) → IfSome o (HoldsFilm ps)
 current_film ps set None h = tt
 current_film ps set (Some r) h = h.film
 

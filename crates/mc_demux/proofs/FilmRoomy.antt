@@ -10,7 +10,7 @@ use Rattle.mc_packet.specs.declared.cache.Limits.{Limits}
 use Rattle.mc_packet.specs.declared.walk.Mark.{Mark}
 use Rattle.mc_packet.specs.Choices.{or_else}
 use Rattle.mc_journal.specs.declared.record.DemuxRecord.{DemuxRecord}
-use Rattle.mc_journal.specs.Told.{Told, told}
+use Rattle.mc_packet.specs.declared.packet.Packet.{Packet}
 use Rattle.mc_journal.specs.Films.{Film, track_of}
 use Rattle.mc_journal.specs.Ranges.{Range, Span, in_span}
 use Rattle.mc_journal.specs.Views.{head}
@@ -66,18 +66,18 @@ pub roomier_ranges : (o n : RangeState) → IsRoomier o n → as_range n ≡ as_
 roomier_ranges o n r =
     range_is _ _ _ _ _ _ (λ k. span_roomier (queue_of k o.queues) (queue_of k n.queues) (of_roomier k o.queues n.queues r.queues)) (ap (λ (m : Mark). m.pos) r.mark_is) r.ending_is
 
-roomier_film : (ps : List Told) (o n : RangeState) → IsRoomier o n → HoldsFilm ps o → HoldsFilm ps n
+roomier_film : (ps : List Packet) (o n : RangeState) → IsRoomier o n → HoldsFilm ps o → HoldsFilm ps n
 roomier_film ps o n r h = λ k.
     let q = of_roomier k o.queues n.queues r.queues in
     ap (λ (s : Option Span). in_span s (track_of k ps)) (span_roomier (queue_of k o.queues) (queue_of k n.queues) q)
-    ∙ h k ∙ sym (ap (λ xs. map told xs) (packets_roomier (queue_of k o.queues) (queue_of k n.queues) q))
+    ∙ h k ∙ sym (ap (λ xs. xs) (packets_roomier (queue_of k o.queues) (queue_of k n.queues) q))
 
 current_is : (o n : Option RangeState) → RoomierIn o n → option_map as_range n ≡ option_map as_range o
 current_is None n r = rw r refl
 current_is (Some a) None r = absurd r
 current_is (Some a) (Some b) r = ap (λ (x : Range). Some x) (roomier_ranges a b r)
 
-current_film : (ps : List Told) (o n : Option RangeState) → RoomierIn o n → IfSome o (HoldsFilm ps) → IfSome n (HoldsFilm ps)
+current_film : (ps : List Packet) (o n : Option RangeState) → RoomierIn o n → IfSome o (HoldsFilm ps) → IfSome n (HoldsFilm ps)
 current_film ps None n r h = subst (λ (x : Option RangeState). IfSome x (HoldsFilm ps)) (sym r) tt
 current_film ps (Some a) None r h = absurd r
 current_film ps (Some a) (Some b) r h = roomier_film ps a b r h

@@ -9,7 +9,7 @@ use Rattle.mc_packet.specs.declared.cache.Limits.{Limits}
 use Rattle.mc_journal.specs.declared.record.DemuxRecord.{DemuxRecord}
 use Rattle.mc_journal.specs.declared.record.DemuxRecord.TheVariants.{Opened, Sought, Switched, Found, Fed, Failed, Starved, Dropped, Joined, Gave, Ended, Overfull, Faulted, Wanting, Shown, Refused}
 use Rattle.mc_journal.specs.declared.record.Removal.{Removal}
-use Rattle.mc_journal.specs.Told.{Told}
+use Rattle.mc_packet.specs.declared.packet.Packet.{Packet}
 use Rattle.mc_journal.specs.Films.{Film}
 use Rattle.mc_journal.specs.Ranges.{Range}
 use Rattle.mc_journal.specs.Readings.{selected, follows}
@@ -57,7 +57,7 @@ now_calm (Wanting by track ∷ h) e = refl
 now_calm (Shown by view ∷ h) e = refl
 now_calm (Refused by why ∷ h) e = refl
 
-still_now : (ps : List Told) (h : List DemuxRecord) → joins_now h ≡ true → are_told (due ps h) ≡ true → joinable ps h ≡ false → is_still ps h ≡ true
+still_now : (ps : List Packet) (h : List DemuxRecord) → joins_now h ≡ true → are_told (due ps h) ≡ true → joinable ps h ≡ false → is_still ps h ≡ true
 still_now ps h now told none =
     let a = now_begun h now in
     let b = now_calm h now in

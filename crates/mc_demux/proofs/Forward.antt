@@ -10,7 +10,6 @@ use Rattle.mc_packet.specs.declared.choice.Choice.{Choice}
 use Rattle.mc_packet.specs.declared.cache.Heads.{Heads}
 use Rattle.mc_packet.specs.declared.cache.Limits.{Limits}
 use Rattle.mc_journal.specs.declared.record.DemuxRecord.{DemuxRecord}
-use Rattle.mc_journal.specs.Told.{Told, told}
 use Rattle.mc_journal.specs.Choices.{of_track, total_of}
 use Rattle.mc_journal.specs.Films.{Film, at, rank}
 use Rattle.mc_journal.specs.Ranges.{Range, held}
@@ -30,23 +29,23 @@ use Rattle.mc_demux.specs.Demuxers.{HaveHeads}
 use Rattle.mc_demux.specs.Film.{Fits, PlacesAre}
 use Rattle.mc_demux.proofs.ByKind.{kinds_ahead}
 
-from_both : (n : ℕ) (ps : List Packet) → from_told n (map told ps) ≡ map told (from_place n ps)
+from_both : (n : ℕ) (ps : List Packet) → from_told n (ps) ≡ (from_place n ps)
 from_both n [] = refl
-from_both n (p ∷ ps) = elim (cases_Bool (nat_le n (rank p.pos))) [ inl y ↦ rw y (ap (λ qs. told p ∷ qs) (from_both n ps)) | inr o ↦ rw o (from_both n ps) ]
+from_both n (p ∷ ps) = elim (cases_Bool (nat_le n (rank p.pos))) [ inl y ↦ rw y (ap (λ qs. p ∷ qs) (from_both n ps)) | inr o ↦ rw o (from_both n ps) ]
 
-sums_told : (n : ℕ) (ps : List Packet) → fold (λ a x. a + weight x) n (map told ps) ≡ fold (λ a x. a + weight_of x) n ps
+sums_told : (n : ℕ) (ps : List Packet) → fold (λ a x. a + weight x) n (ps) ≡ fold (λ a x. a + weight_of x) n ps
 sums_told n [] = refl
 sums_told n (p ∷ ps) = sums_told (n + weight_of p) ps
 
-pub weights_told : (ps : List Packet) → sum_by weight (map told ps) ≡ weights ps
+pub weights_told : (ps : List Packet) → sum_by weight (ps) ≡ weights ps
 weights_told ps = sums_told 0 ps
 
--- what is told from a head on
+-- what is from a head on
 pub ahead_told : (o : Option QueueState) (hd : Option Pos) (n : ℕ) → IfSome o (λ q. IsSomeAnd hd (λ p. rank p ≡ n))
-    → from_told n (map told (packets_in o)) ≡ map told (ahead o hd)
+    → from_told n ((packets_in o)) ≡ (ahead o hd)
 ahead_told None hd n h = refl
 ahead_told (Some q) None n h = absurd h
-ahead_told (Some q) (Some p) n h = subst (λ m. from_told m (map told q.packets) ≡ map told (from_place (rank p) q.packets)) h (from_both (rank p) q.packets)
+ahead_told (Some q) (Some p) n h = subst (λ m. from_told m (q.packets) ≡ (from_place (rank p) q.packets)) h (from_both (rank p) q.packets)
 
 pub same_on : (o : Option ℕ) (f g : ℕ → ℕ) → ((k : ℕ) → f k ≡ g k) → of_track o f ≡ of_track o g
 same_on None f g e = refl
@@ -65,14 +64,14 @@ nothing_ahead (Some k) = refl
 forward_none : (set : Choice) → 0 ≡ total_of set (λ k. weights [])
 forward_none set = rw (nothing_ahead set.video, nothing_ahead set.audio, nothing_ahead set.sub) refl
 
-pub forward_told : (ps : List Told) (set : Choice) (heads : Heads) (n : ℕ → ℕ) (current : Option RangeState)
+pub forward_told : (ps : List Packet) (set : Choice) (heads : Heads) (n : ℕ → ℕ) (current : Option RangeState)
     → IfSome current (HoldsFilm ps) → IfSome current (PlacesAre set heads n)
     → forward_in ps set n (option_map as_range current) ≡ total_of set (λ k. weights (ahead_in set heads k current))
 forward_told ps set heads n None all places = forward_none set
 forward_told ps set heads n (Some r) all places =
     same_total set (λ k. sum_by weight (from_told (n k) (held (as_range r) ps k))) (λ k. weights (ahead (queue_of k r.queues) (head_of set heads k)))
-    (λ k. ap (λ (qs : List Told). sum_by weight (from_told (n k) qs)) (all k)
-    ∙ ap (λ (qs : List Told). sum_by weight qs) (ahead_told (queue_of k r.queues) (head_of set heads k) (n k) (places k))
+    (λ k. ap (λ (qs : List Packet). sum_by weight (from_told (n k) qs)) (all k)
+    ∙ ap (λ (qs : List Packet). sum_by weight qs) (ahead_told (queue_of k r.queues) (head_of set heads k) (n k) (places k))
     ∙ weights_told (ahead (queue_of k r.queues) (head_of set heads k)))
 
 pub forward_kinds : (set : Choice) (heads : Heads) (current : Option RangeState) → IfSome current IsRange → IfSome current (λ r. r.set ≡ set)

@@ -10,7 +10,7 @@ use Rattle.mc_packet.specs.declared.choice.Choice.{Choice}
 use Rattle.mc_packet.specs.declared.cache.Heads.{Heads}
 use Rattle.mc_packet.specs.declared.cache.Limits.{Limits}
 use Rattle.mc_journal.specs.declared.record.DemuxRecord.{DemuxRecord}
-use Rattle.mc_journal.specs.Told.{Told, told, gave_by}
+use Rattle.mc_journal.specs.Told.{gave_by}
 use Rattle.mc_packet.specs.Choices.{is_track, has}
 use Rattle.mc_journal.specs.Films.{Film, at, rank, first, track_of}
 use Rattle.mc_journal.specs.Ranges.{Range, Span, within, in_span}
@@ -31,26 +31,26 @@ use Rattle.mc_demux.proofs.Quiet.{tidy, is_selected}
 
 -- ---- the packet is of the track
 
-all_of : (track : ℕ) (ps : List Told) → AllByRecursion (λ p. p.track ≡ track) (track_of track ps)
+all_of : (track : ℕ) (ps : List Packet) → AllByRecursion (λ p. p.track ≡ track) (track_of track ps)
 all_of track [] = tt
 all_of track (p ∷ ps) = elim (cases_Bool (p.track == track)) [ inl y ↦ rw y (eqb-true p.track track y, all_of track ps) | inr n ↦ rw n (all_of track ps) ]
 
-kept_all : (P : Told → Type 0) (test : Told → Bool) (ps : List Told) → AllByRecursion P ps → AllByRecursion P (filter test ps)
+kept_all : (P : Packet → Type 0) (test : Packet → Bool) (ps : List Packet) → AllByRecursion P ps → AllByRecursion P (filter test ps)
 kept_all P test [] h = tt
 kept_all P test (p ∷ ps) h = elim (cases_Bool (test p)) [ inl y ↦ rw y (h.0, kept_all P test ps h.1) | inr n ↦ rw n (kept_all P test ps h.1) ]
 
-span_all : (P : Told → Type 0) (s : Option Span) (ps : List Told) → AllByRecursion P ps → AllByRecursion P (in_span s ps)
+span_all : (P : Packet → Type 0) (s : Option Span) (ps : List Packet) → AllByRecursion P ps → AllByRecursion P (in_span s ps)
 span_all P None ps h = tt
 span_all P (Some s) ps h = kept_all P (λ p. nat_le s.from (at p) && nat_lt (at p) s.to) ps h
 
-first_all : (P : Told → Type 0) (ps : List Told) (p : Told) → AllByRecursion P ps → first ps ≡ Some p → P p
+first_all : (P : Packet → Type 0) (ps : List Packet) (p : Packet) → AllByRecursion P ps → first ps ≡ Some p → P p
 first_all P [] p h e = absurd (cc)
 first_all P (q ∷ ps) p h e = let same : q ≡ p = cc in subst P same h.0
 
-next_track : (ps : List Told) (track n : ℕ) (o : Option Range) (p : Told) → next_held ps track n o ≡ Some p → p.track ≡ track
+next_track : (ps : List Packet) (track n : ℕ) (o : Option Range) (p : Packet) → next_held ps track n o ≡ Some p → p.track ≡ track
 next_track ps track n None p e = absurd (cc)
 next_track ps track n (Some r) p e =
-    let P : Told → Type 0 = λ q. q.track ≡ track in
+    let P : Packet → Type 0 = λ q. q.track ≡ track in
     let all : AllByRecursion P (from_place n (in_span (r.spans track) (track_of track ps))) =
     kept_all P (λ q. nat_le n (at q)) (in_span (r.spans track) (track_of track ps)) (span_all P (r.spans track) (track_of track ps) (all_of track ps)) in
     first_all P (from_place n (in_span (r.spans track) (track_of track ps))) p all e
@@ -118,12 +118,12 @@ pub gave_step : (film : Film) (limits : Limits) (set : Choice) (current : Option
     → has set track ≡ true → next_in set heads track current ≡ Some p
     → Fits film limits set current others (with_head set track (past p.pos) heads) seeking waiting switch failure ended (gave_by by p ∷ h)
 gave_step film limits set current others heads seeking waiting switch failure ended h by track p f still sel is =
-    let here : next film.packets h track ≡ Some (told p) =
-    next-is film limits set current others heads seeking waiting switch failure ended h track f ∙ ap (λ (o : Option Packet). option_map told o) is in
-    let same : p.track ≡ track = next_track film.packets track (head film.packets track h) (stand film.packets h).current (told p) here in
+    let here : next film.packets h track ≡ Some (p) =
+    next-is film limits set current others heads seeking waiting switch failure ended h track f ∙ ap (λ (o : Option Packet). o) is in
+    let same : p.track ≡ track = next_track film.packets track (head film.packets track h) (stand film.packets h).current (p) here in
     let chosen : has (selected h) p.track ≡ true =
     is_selected film limits set current others heads seeking waiting switch failure ended h p.track f (subst (λ k. has set k ≡ true) (sym same) sel) in
-    let there : next film.packets h p.track ≡ Some (told p) = subst (λ k. next film.packets h k ≡ Some (told p)) (sym same) here in
+    let there : next film.packets h p.track ≡ Some (p) = subst (λ k. next film.packets h k ≡ Some (p)) (sym same) here in
     let moved : IfSome current (PlacesAre set (with_head set track (past p.pos) heads) (λ j. if p.track == j then rank p.pos + 1 else head film.packets j h)) =
     subst (λ k. IfSome current (PlacesAre set (with_head set track (past p.pos) heads) (λ j. if k == j then rank p.pos + 1 else head film.packets j h))) (sym same)
     (places_one set heads track p.pos (λ j. head film.packets j h) current sel f.places) in

@@ -7,7 +7,7 @@ use Rattle.mc_packet.specs.declared.choice.Choice.{Choice}
 use Rattle.mc_packet.specs.declared.cache.Heads.{Heads}
 use Rattle.mc_packet.specs.declared.walk.Ending.{Ending}
 use Rattle.mc_packet.specs.declared.walk.Mark.{Mark}
-use Rattle.mc_journal.specs.Told.{Told, told}
+use Rattle.mc_packet.specs.declared.packet.Packet.{Packet}
 use Rattle.mc_packet.specs.Choices.{or_else, is_empty, lead_of}
 use Rattle.mc_journal.specs.Choices.{kept_of, kept_track, meets, some_of}
 use Rattle.mc_journal.specs.Films.{Film}
@@ -99,13 +99,13 @@ some_kept set test =
 
 -- ---- what is wanted
 
-want_same : (ps : List Told) (near : ℤ) (set : Choice) (heads : Heads) (n : ℕ → ℕ) (current : Option RangeState) (k : ℕ)
+want_same : (ps : List Packet) (near : ℤ) (set : Choice) (heads : Heads) (n : ℕ → ℕ) (current : Option RangeState) (k : ℕ)
     → IfSome current (HoldsFilm ps) → IfSome current (PlacesAre set heads n)
-    → wants_more near (map told (ahead_in set heads k current)) ≡ wants_in ps near k (n k) (option_map as_range current)
+    → wants_more near ((ahead_in set heads k current)) ≡ wants_in ps near k (n k) (option_map as_range current)
 want_same ps near set heads n None k all places = refl
 want_same ps near set heads n (Some r) k all places =
-    sym (ap (λ (qs : List Told). wants_more near (from_place (n k) qs)) (all k)
-    ∙ ap (λ (qs : List Told). wants_more near qs) (ahead_told (queue_of k r.queues) (head_of set heads k) (n k) (places k)))
+    sym (ap (λ (qs : List Packet). wants_more near (from_place (n k) qs)) (all k)
+    ∙ ap (λ (qs : List Packet). wants_more near qs) (ahead_told (queue_of k r.queues) (head_of set heads k) (n k) (places k)))
 
 meets_same : (o : Option ℕ) (f g : ℕ → Bool) → ((k : ℕ) → f k ≡ g k) → meets o f ≡ meets o g
 meets_same None f g h = refl

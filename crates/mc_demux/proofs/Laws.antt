@@ -5,7 +5,6 @@ use Rattle.std.specs.Option.{option_map}
 use Rattle.std.proofs.lemmas.Bool.{cases_Bool, eqb-true}
 use Rattle.mc_packet.specs.declared.packet.Packet.{Packet}
 use Rattle.mc_packet.specs.declared.choice.Choice.{Choice}
-use Rattle.mc_journal.specs.Told.{Told, told}
 use Rattle.mc_packet.specs.Choices.{is_track, has}
 use Rattle.mc_journal.specs.Choices.{kept_of, kept_track}
 use Rattle.mc_journal.specs.Films.{Film, IsRegular}
@@ -62,7 +61,7 @@ kept-has set test k e = elim (cases_Bool (is_track (kept_track test set.video) k
   ]
 ]
 
-pub none_told : (o : Option Packet) → option_map told o ≡ None → o ≡ None
+pub none_told : (o : Option Packet) → o ≡ None → o ≡ None
 none_told None e = refl
 none_told (Some p) e = absurd (cc)
 

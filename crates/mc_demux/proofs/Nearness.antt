@@ -9,7 +9,6 @@ use Rattle.mc_packet.specs.declared.packet.Packet.{Packet}
 use Rattle.mc_packet.specs.declared.packet.Pos.{Pos}
 use Rattle.mc_packet.specs.declared.choice.Choice.{Choice}
 use Rattle.mc_packet.specs.declared.cache.Heads.{Heads}
-use Rattle.mc_journal.specs.Told.{told}
 use Rattle.mc_journal.specs.Films.{rank}
 use Rattle.mc_journal.specs.Ranges.{greatest_time}
 use Rattle.mc_journal.specs.Views.{wants_more, from_place}
@@ -149,7 +148,7 @@ and_assoc : (a b c : Bool) → ((a && b) && c) ≡ (a && (b && c))
 and_assoc true b c = refl
 and_assoc false b c = refl
 
-all_near : (f near t : ℤ) (ps : List Packet) → int_lt (greatest_time t (map told ps) -ℤ f) near ≡ (is_near f near t && list_all (λ p. is_near f near p.time) ps)
+all_near : (f near t : ℤ) (ps : List Packet) → int_lt (greatest_time t (ps) -ℤ f) near ≡ (is_near f near t && list_all (λ p. is_near f near p.time) ps)
 all_near f near t [] = elim (cases_Bool (int_lt (t -ℤ f) near)) [ inl y ↦ rw y refl | inr n ↦ rw n refl ]
 all_near f near t (p ∷ ps) =
     all_near f near (if int_le t p.time then p.time else t) ps
@@ -157,16 +156,16 @@ all_near f near t (p ∷ ps) =
     ∙ and_assoc (is_near f near t) (is_near f near p.time) (list_all (λ (q : Packet). is_near f near q.time) ps)
 
 -- a track wants no more where a packet is as far as that behind the first
-pub wants_near : (near : ℤ) (p : Packet) (ps : List Packet) → list_all (λ q. is_near p.time near q.time) (p ∷ ps) ≡ wants_more near (map told (p ∷ ps))
+pub wants_near : (near : ℤ) (p : Packet) (ps : List Packet) → list_all (λ q. is_near p.time near q.time) (p ∷ ps) ≡ wants_more near ((p ∷ ps))
 wants_near near p ps = sym (all_near p.time near p.time ps)
 
 pub some_near : (st : CacheState) (k : ℕ) (at : Pos) (p : Packet) → IsCache st → Some p ≡ first_in k at st.current
-    → list_all (λ q. is_near p.time st.limits.readahead q.time) (held_from k at st.current) ≡ wants_more st.limits.readahead (map told (held_from k at st.current))
+    → list_all (λ q. is_near p.time st.limits.readahead q.time) (held_from k at st.current) ≡ wants_more st.limits.readahead ((held_from k at st.current))
 some_near st k at p i e =
     let z = held_step st k at (past p.pos) p i (sym e) (rank-past p.pos) in
     rw z (wants_near st.limits.readahead p (held_from k (past p.pos) st.current))
 
-pub none_near : (st : CacheState) (k : ℕ) (at : Pos) → None ≡ first_in k at st.current → true ≡ wants_more st.limits.readahead (map told (held_from k at st.current))
+pub none_near : (st : CacheState) (k : ℕ) (at : Pos) → None ≡ first_in k at st.current → true ≡ wants_more st.limits.readahead ((held_from k at st.current))
 none_near st k at e = let z = held_none k at st.current (sym e) in rw z refl
 
 -- ---- heads
@@ -190,5 +189,5 @@ head_at set heads track p None e = refl
 head_at set heads track p (Some r) e = rw e refl
 
 pub a_head : (d : DemuxState) (track : ℕ) (p : Pos) → head_of d.set d.heads track ≡ Some p
-    → wants_more d.cache.limits.readahead (map told (held_from track p d.cache.current)) ≡ wants d track
-a_head d track p e = ap (λ (ps : List Packet). wants_more d.cache.limits.readahead (map told ps)) (sym (head_at d.set d.heads track p d.cache.current e))
+    → wants_more d.cache.limits.readahead ((held_from track p d.cache.current)) ≡ wants d track
+a_head d track p e = ap (λ (ps : List Packet). wants_more d.cache.limits.readahead (ps)) (sym (head_at d.set d.heads track p d.cache.current e))

@@ -11,7 +11,6 @@ use Rattle.mc_packet.specs.declared.cache.Heads.{Heads}
 use Rattle.mc_packet.specs.declared.cache.Limits.{Limits}
 use Rattle.mc_packet.specs.declared.walk.Ending.{Ending}
 use Rattle.mc_journal.specs.declared.record.DemuxRecord.{DemuxRecord}
-use Rattle.mc_journal.specs.Told.{Told, told}
 use Rattle.mc_journal.specs.Films.{Film, at, rank, first}
 use Rattle.mc_journal.specs.Ranges.{Range, held}
 use Rattle.mc_journal.specs.Stands.{stand}
@@ -27,27 +26,27 @@ use Rattle.mc_demux.specs.declared.waiting.Failure.{Failure}
 use Rattle.mc_demux.specs.State.{head_of, first_at, next_in, end_in}
 use Rattle.mc_demux.specs.Film.{Fits, PlacesAre}
 
-found_told : (n : ℕ) (ps : List Packet) → first (from_place n (map told ps)) ≡ option_map told (find (is_from n) ps)
+found_told : (n : ℕ) (ps : List Packet) → first (from_place n (ps)) ≡ (find (is_from n) ps)
 found_told n [] = refl
 found_told n (p ∷ ps) = elim (cases_Bool (nat_le n (rank p.pos))) [ inl y ↦ rw y refl | inr o ↦ rw o (found_told n ps) ]
 
 first_told : (o : Option QueueState) (hd : Option Pos) (n : ℕ) → IfSome o (λ q. IsSomeAnd hd (λ p. rank p ≡ n))
-    → first (from_place n (map told (packets_in o))) ≡ option_map told (first_at o hd)
+    → first (from_place n ((packets_in o))) ≡ (first_at o hd)
 first_told None hd n h = refl
 first_told (Some q) None n h = absurd h
-first_told (Some q) (Some p) n h = subst (λ m. first (from_place m (map told q.packets)) ≡ option_map told (find (is_from (rank p)) q.packets)) h (found_told (rank p) q.packets)
+first_told (Some q) (Some p) n h = subst (λ m. first (from_place m (q.packets)) ≡ (find (is_from (rank p)) q.packets)) h (found_told (rank p) q.packets)
 
-pub next_told : (ps : List Told) (set : Choice) (heads : Heads) (n : ℕ → ℕ) (track : ℕ) (current : Option RangeState)
+pub next_told : (ps : List Packet) (set : Choice) (heads : Heads) (n : ℕ → ℕ) (track : ℕ) (current : Option RangeState)
     → IfSome current (HoldsFilm ps) → IfSome current (PlacesAre set heads n)
-    → next_held ps track (n track) (option_map as_range current) ≡ option_map told (next_in set heads track current)
+    → next_held ps track (n track) (option_map as_range current) ≡ (next_in set heads track current)
 next_told ps set heads n track None held_all places = refl
 next_told ps set heads n track (Some r) held_all places =
-    ap (λ (qs : List Told). first (from_place (n track) qs)) (held_all track) ∙ first_told (queue_of track r.queues) (head_of set heads track) (n track) (places track)
+    ap (λ (qs : List Packet). first (from_place (n track) qs)) (held_all track) ∙ first_told (queue_of track r.queues) (head_of set heads track) (n track) (places track)
 
 pub next-is : (film : Film) (limits : Limits) (set : Choice) (current : Option RangeState) (others : List RangeState) (heads : Heads)
     (seeking : Option Target) (waiting : Choice) (switch : Switch) (failure : Option Failure) (ended : Choice) (h : List DemuxRecord) (track : ℕ)
     → Fits film limits set current others heads seeking waiting switch failure ended h
-    → next film.packets h track ≡ option_map told (next_in set heads track current)
+    → next film.packets h track ≡ (next_in set heads track current)
 next-is film limits set current others heads seeking waiting switch failure ended h track f =
     ap (λ (o : Option Range). next_held film.packets track (head film.packets track h) o) f.current_is
     ∙ next_told film.packets set heads (λ k. head film.packets k h) track current f.held f.places

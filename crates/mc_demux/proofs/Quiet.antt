@@ -14,7 +14,6 @@ use Rattle.mc_packet.specs.declared.cache.Limits.{Limits}
 use Rattle.mc_packet.specs.declared.walk.Ending.{Ending}
 use Rattle.mc_journal.specs.declared.record.DemuxRecord.{DemuxRecord}
 use Rattle.mc_journal.specs.declared.record.DemuxRecord.TheVariants.{Ended, Overfull, Faulted, Wanting, Shown, Refused, Failed, Starved}
-use Rattle.mc_journal.specs.Told.{Told, told}
 use Rattle.mc_packet.specs.Choices.{has}
 use Rattle.mc_journal.specs.Choices.{kept_of, kept_track}
 use Rattle.mc_journal.specs.Films.{Film}
@@ -43,7 +42,7 @@ filter-twice test (x ∷ xs) =
     let e = filter-twice test xs in
     elim (cases_Bool (test x)) [ inl y ↦ rw (y, y) (ap (λ zs. x ∷ zs) e) | inr n ↦ rw n e ]
 
-pub tidy : (ps : List Told) (h : List DemuxRecord) → filter (holds_any ps (selected h)) (stand ps h).others ≡ (stand ps h).others
+pub tidy : (ps : List Packet) (h : List DemuxRecord) → filter (holds_any ps (selected h)) (stand ps h).others ≡ (stand ps h).others
 tidy ps [] = refl
 tidy ps (r ∷ h) = filter-twice (holds_any ps (selected (r ∷ h))) (after ps (selected h) (stand ps h) r).others
 
@@ -93,14 +92,14 @@ refused_step film limits set current others heads seeking waiting switch failure
   ended_are = f.ended_are;
 }
 
--- ---- a reader is told that it has to wait
+-- ---- a reader is that it has to wait
 
 -- nothing is at the head of a track that the state shows to have nothing there
 pub nothing_next : (film : Film) (limits : Limits) (set : Choice) (current : Option RangeState) (others : List RangeState) (heads : Heads)
     (seeking : Option Target) (waiting : Choice) (switch : Switch) (failure : Option Failure) (ended : Choice) (h : List DemuxRecord) (track : ℕ)
     → Fits film limits set current others heads seeking waiting switch failure ended h → next_in set heads track current ≡ None → next film.packets h track ≡ None
 nothing_next film limits set current others heads seeking waiting switch failure ended h track f none =
-    next-is film limits set current others heads seeking waiting switch failure ended h track f ∙ ap (λ (o : Option Packet). option_map told o) none
+    next-is film limits set current others heads seeking waiting switch failure ended h track f ∙ ap (λ (o : Option Packet). o) none
 
 pub no_end : (film : Film) (limits : Limits) (set : Choice) (current : Option RangeState) (others : List RangeState) (heads : Heads)
     (seeking : Option Target) (waiting : Choice) (switch : Switch) (failure : Option Failure) (ended : Choice) (h : List DemuxRecord) (track : ℕ)
@@ -252,7 +251,7 @@ starved_step film limits set current others heads seeking waiting switch failure
       ended_are = f.ended_are;
     }
 
--- ---- a reader is told its end
+-- ---- a reader is its end
 
 mark_one : (n : ℕ) (test : ℕ → Bool) (o : Option ℕ) → mark_track n o (kept_track test o) ≡ kept_track (λ k. n == k || test k) o
 mark_one n test None = refl
@@ -276,7 +275,7 @@ end_queue : (o : Option QueueState) (e : Option Ending) (ending : Ending) → (i
 end_queue None e ending h = absurd (cc)
 end_queue (Some q) e ending h = (h, refl)
 
-end_held : (ps : List Told) (h : List DemuxRecord) (track : ℕ) (ending : Ending) (current : Option RangeState) → end_in track current ≡ Some ending
+end_held : (ps : List Packet) (h : List DemuxRecord) (track : ℕ) (ending : Ending) (current : Option RangeState) → end_in track current ≡ Some ending
     → IsSomeAnd (option_map as_range current) (λ r. (r.ending ≡ Some ending) × (is_some (r.spans track) ≡ true))
 end_held ps h track ending None e = absurd (cc)
 end_held ps h track ending (Some r) e = end_queue (queue_of track r.queues) r.ending ending e

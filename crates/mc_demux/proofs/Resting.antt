@@ -1,10 +1,9 @@
--- Where nothing is to be done and no selected track has a packet at its head, each of them can be told its end or a failure.
+-- Where nothing is to be done and no selected track has a packet at its head, each of them can be its end or a failure.
 use Rattle.std.proofs.Common.{◌≡◌, ℕ, ◌+◌, ◌≤◌, ◌<◌, Bool, true, false, ◌&&◌, ◌||◌, not, Option, Some, None, List, [], ◌∷◌, refl, ap, sym, subst, ◌∙◌, inl, inr, arith, ◌⊎◌}
 use Rattle.std.specs.Prelude.{map, nat_le, if◌then◌else◌, is_some, IfSome, IsSomeAnd}
 use Rattle.std.specs.List.{filter, find, AllByRecursion}
 use Rattle.std.proofs.lemmas.Bool.{cases_Bool, eq-eqb}
 use Rattle.std.proofs.lemmas.Bool.Decides.{nat_tests}
-use Rattle.mc_journal.specs.Told.{told}
 use Rattle.mc_journal.specs.Views.{wants_more, from_place}
 use Rattle.mc_packet.specs.declared.packet.Packet.{Packet}
 use Rattle.mc_packet.specs.declared.packet.Pos.{Pos}
@@ -138,7 +137,7 @@ is_ended d track i sel none full =
     let have = have_heads d.set d.heads d.waiting d.seeking d.cache.current i.placed in
     let zero : forward_of d ≡ 0 = sym (forward_kinds d.set d.heads d.cache.current i.cache.current (own_set d i) have) ∙ none_total d.set (λ k. weights (ahead_in d.set d.heads k d.cache.current)) (λ k e. ap weights (none k e)) in
     let below : nat_le d.cache.limits.forward (forward_of d) ≡ false = above_none d.cache.limits.forward (forward_of d) i.limits.some zero in
-    let wanted : some_wants d ≡ true = all_want d track sel (λ k e. ap (λ (ps : List Packet). wants_more d.cache.limits.readahead (map told ps)) (none k e)) in
+    let wanted : some_wants d ≡ true = all_want d track sel (λ k e. ap (λ (ps : List Packet). wants_more d.cache.limits.readahead (ps)) (none k e)) in
     ended_by (is_some (ending_in d.cache.current)) (nat_le d.cache.limits.forward (forward_of d)) (some_wants d) full below wanted
 
 end_there : (set : Choice) (heads : Heads) (waiting : Choice) (current : Option RangeState) (track : ℕ) → IsPlaced set heads waiting None current

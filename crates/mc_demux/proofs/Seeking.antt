@@ -13,7 +13,7 @@ use Rattle.mc_journal.specs.declared.record.Sought.{Sought as How}
 use Rattle.mc_journal.specs.declared.record.Sought.TheVariants.{Cached, Sent}
 use Rattle.mc_journal.specs.declared.record.DemuxRecord.{DemuxRecord}
 use Rattle.mc_journal.specs.declared.record.DemuxRecord.TheVariants.{Sought}
-use Rattle.mc_journal.specs.Told.{Told}
+use Rattle.mc_packet.specs.declared.packet.Packet.{Packet}
 use Rattle.mc_packet.specs.Choices.{has, is_track, is_empty, nothing}
 use Rattle.mc_journal.specs.Choices.{kept_of, kept_track}
 use Rattle.mc_journal.specs.Films.{Film, start_of}
@@ -33,7 +33,7 @@ use Rattle.mc_demux.specs.Film.{Fits, PlacesAre}
 
 -- ---- at rest no seek is owed
 
-pub no_follow : (ps : List Told) (h : List DemuxRecord) → is_still ps h ≡ true → follows h ≡ false
+pub no_follow : (ps : List Packet) (h : List DemuxRecord) → is_still ps h ≡ true → follows h ≡ false
 no_follow ps h still =
     let one = and_parts (is_begun h) (not (follows h) && (are_told (due ps h) && not (joins_now h && joinable ps h))) still in
     let two = and_parts (not (follows h)) (are_told (due ps h) && not (joins_now h && joinable ps h)) one.1 in
@@ -80,7 +80,7 @@ not_nothing k e = absurd (cc)
 
 -- ---- the record may come
 
-may_seek : (ps : List Told) (h : List DemuxRecord) (by : ℕ) (set : Choice) (t : ℤ) (dir : Dir) (how : How) → selected h ≡ set → follows h ≡ false
+may_seek : (ps : List Packet) (h : List DemuxRecord) (by : ℕ) (set : Choice) (t : ℤ) (dir : Dir) (how : How) → selected h ≡ set → follows h ≡ false
     → is_empty set ≡ false → how ≡ how_by (is_served ps h set dir t) → MaySeek ps h by set t dir how
 may_seek ps h by set t dir how e off some is =
     (sym e, subst (λ b. MatchBool b ((how ≡ Sent) × (target h ≡ Some t) × (dir ≡ direction h) × (switcher h ≡ Some by)) ((is_empty set ≡ false) × (how ≡ how_by (is_served ps h set dir t)))) (sym off) (some, is))
@@ -89,13 +89,13 @@ or_right : (a b : Bool) → b ≡ true → (a || b) ≡ true
 or_right true b e = refl
 or_right false b e = e
 
-in_turn : (ps : List Told) (h : List DemuxRecord) → is_still ps h ≡ true → (follows h || is_still ps h) ≡ true
+in_turn : (ps : List Packet) (h : List DemuxRecord) → is_still ps h ≡ true → (follows h || is_still ps h) ≡ true
 in_turn ps h still = or_right (follows h) (is_still ps h) still
 
 -- ---- the step
 
 -- what no range has to do with: the readings behind a seek
-unwaited : (ps : List Told) (h : List DemuxRecord) (by : ℕ) (set : Choice) (t : ℤ) (dir : Dir) (how : How)
+unwaited : (ps : List Packet) (h : List DemuxRecord) (by : ℕ) (set : Choice) (t : ℤ) (dir : Dir) (how : How)
     → nothing ≡ kept_of set (λ track. waits track (Sought by set t dir how ∷ h))
 unwaited ps h by set t dir how = sym (none_of set (λ track. waits track (Sought by set t dir how ∷ h)) (λ k e. rw e refl))
 

@@ -11,7 +11,6 @@ use Rattle.mc_packet.specs.declared.choice.Dir.{Dir}
 use Rattle.mc_packet.specs.declared.cache.Heads.{Heads}
 use Rattle.mc_packet.specs.declared.walk.Mark.{Mark}
 use Rattle.mc_journal.specs.declared.record.DemuxRecord.{DemuxRecord}
-use Rattle.mc_journal.specs.Told.{Told, told}
 use Rattle.mc_packet.specs.Choices.{or_else, has}
 use Rattle.mc_journal.specs.Films.{Film, at, rank}
 use Rattle.mc_journal.specs.Readings.{selected, pending, target, direction, failed}
@@ -34,18 +33,18 @@ use Rattle.mc_demux.proofs.Nexts.{end-is, next-is}
 
 -- ---- the packet at a head
 
-place_told : (o : Option Packet) → option_map (λ (p : Packet). rank p.pos) o ≡ option_map at (option_map told o)
+place_told : (o : Option Packet) → option_map (λ (p : Packet). rank p.pos) o ≡ option_map at (o)
 place_told None = refl
 place_told (Some p) = refl
 
-pub next_of : (film : Film) (d : DemuxState) (track : ℕ) → StandsFor film d → next film.packets (reverse d.journal) track ≡ option_map told (next_in d.set d.heads track d.cache.current)
+pub next_of : (film : Film) (d : DemuxState) (track : ℕ) → StandsFor film d → next film.packets (reverse d.journal) track ≡ (next_in d.set d.heads track d.cache.current)
 next_of film d track s =
     next-is film d.cache.limits d.set d.cache.current d.cache.others d.heads d.seeking d.waiting d.switch d.failure d.ended (reverse d.journal) track s.fits
 
 pub front_is : (film : Film) (d : DemuxState) (track : ℕ) → StandsFor film d
     → option_map (λ (p : Packet). rank p.pos) (next_in d.set d.heads track d.cache.current) ≡ option_map at (next film.packets (reverse d.journal) track)
 front_is film d track s =
-    place_told (next_in d.set d.heads track d.cache.current) ∙ ap (λ (o : Option Told). option_map at o) (sym (next_of film d track s))
+    place_told (next_in d.set d.heads track d.cache.current) ∙ ap (λ (o : Option Packet). option_map at o) (sym (next_of film d track s))
 
 -- ---- its track
 
@@ -113,7 +112,7 @@ full_waits true forward max = refl
 full_waits false forward max = refl
 
 finish_by : (o : Option Packet) (e : Option Ending) (f : Option Failure) (forward max : ℕ)
-    → is_finish (peek_at (reading_by o e f forward max)) ≡ (not (is_some (option_map told o)) && (is_some e || is_some f))
+    → is_finish (peek_at (reading_by o e f forward max)) ≡ (not (is_some (o)) && (is_some e || is_some f))
 finish_by (Some p) e f forward max = refl
 finish_by None (Some e) f forward max = refl
 finish_by None None (Some (Failed before after)) forward max = refl
@@ -121,7 +120,7 @@ finish_by None None (Some Starved) forward max = refl
 finish_by None None None forward max = full_waits (nat_le max forward) forward max
 
 finish_in : (b : Bool) (o : Option Packet) (e : Option Ending) (f : Option Failure) (forward max : ℕ)
-    → (b && is_finish (peek_at (if b then reading_by o e f forward max else Unselected))) ≡ (b && (not (is_some (option_map told o)) && (is_some e || is_some f)))
+    → (b && is_finish (peek_at (if b then reading_by o e f forward max else Unselected))) ≡ (b && (not (is_some (o)) && (is_some e || is_some f)))
 finish_in true o e f forward max = finish_by o e f forward max
 finish_in false o e f forward max = refl
 
@@ -132,11 +131,11 @@ pub tells_is : (film : Film) (d : DemuxState) (track : ℕ) → StandsFor film d
 tells_is film d track s =
     let h = reverse d.journal in
     let set : has d.set track ≡ has (selected h) track = ap (λ (c : Choice). has c track) (set_is film d s) in
-    let none : option_map told (next_in d.set d.heads track d.cache.current) ≡ next film.packets h track = sym (next_of film d track s) in
+    let none : (next_in d.set d.heads track d.cache.current) ≡ next film.packets h track = sym (next_of film d track s) in
     let end : is_some (end_in track d.cache.current) ≡ can_end film.packets h track =
     sym (end-is film d.cache.limits d.set d.cache.current d.cache.others d.heads d.seeking d.waiting d.switch d.failure d.ended h track s.fits) in
     finish_in (has d.set track) (next_in d.set d.heads track d.cache.current) (end_in track d.cache.current) d.failure (forward_of d) d.cache.limits.forward
-    ∙ ap (λ b. b && (not (is_some (option_map told (next_in d.set d.heads track d.cache.current))) && (is_some (end_in track d.cache.current) || is_some d.failure))) set
-    ∙ ap (λ (o : Option Told). has (selected h) track && (not (is_some o) && (is_some (end_in track d.cache.current) || is_some d.failure))) none
+    ∙ ap (λ b. b && (not (is_some ((next_in d.set d.heads track d.cache.current))) && (is_some (end_in track d.cache.current) || is_some d.failure))) set
+    ∙ ap (λ (o : Option Packet). has (selected h) track && (not (is_some o) && (is_some (end_in track d.cache.current) || is_some d.failure))) none
     ∙ ap (λ b. has (selected h) track && (not (is_some (next film.packets h track)) && (b || is_some d.failure))) end
     ∙ ap (λ b. has (selected h) track && (not (is_some (next film.packets h track)) && (can_end film.packets h track || b))) (failed_is film d s)

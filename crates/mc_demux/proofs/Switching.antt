@@ -14,7 +14,7 @@ use Rattle.mc_journal.specs.declared.record.Removal.{Removal}
 use Rattle.mc_journal.specs.declared.record.Sought.TheVariants.{Sent}
 use Rattle.mc_journal.specs.declared.record.DemuxRecord.{DemuxRecord}
 use Rattle.mc_journal.specs.declared.record.DemuxRecord.TheVariants.{Dropped, Sought, Switched}
-use Rattle.mc_journal.specs.Told.{Told}
+use Rattle.mc_packet.specs.declared.packet.Packet.{Packet}
 use Rattle.mc_packet.specs.Choices.{has, is_empty, is_known, lead_of, nothing}
 use Rattle.mc_journal.specs.Choices.{kept_of, kept_track}
 use Rattle.mc_journal.specs.Films.{Film, rank}
@@ -112,7 +112,7 @@ or_left : (a b : Bool) → a ≡ true → (a || b) ≡ true
 or_left true b e = refl
 or_left false b e = absurd (cc)
 
-none_left : (ps : List Told) (next : Choice) (f : Range → Range) (b : Bool) (o : Option Range) → o ≡ None
+none_left : (ps : List Packet) (next : Choice) (f : Range → Range) (b : Bool) (o : Option Range) → o ≡ None
     → filter (holds_any ps next) (option_map_or (λ r. r ∷ []) (if b then None else option_map f o) []) ≡ []
 none_left ps next f b o e = rw e (by b)
   where
@@ -154,7 +154,7 @@ resent_step film limits set next current others heads s waiting switch failure e
 -- ---- the drops that are due
 
 -- nothing comes before these drops
-pub record AreDue (ps : List Told) (h : List DemuxRecord) (ms : List Removal) : Type 0 where
+pub record AreDue (ps : List Packet) (h : List DemuxRecord) (ms : List Removal) : Type 0 where
   pub begun : is_begun h ≡ true
   pub alone : follows h ≡ false
   pub joins : joins_now h ≡ false

@@ -11,7 +11,7 @@ use Rattle.mc_journal.specs.declared.record.DemuxRecord.{DemuxRecord}
 use Rattle.mc_journal.specs.declared.record.DemuxRecord.TheVariants.{Dropped}
 use Rattle.mc_journal.specs.declared.record.Removal.{Removal}
 use Rattle.mc_journal.specs.declared.record.Cause.TheVariants.{Limit}
-use Rattle.mc_journal.specs.Told.{Told}
+use Rattle.mc_packet.specs.declared.packet.Packet.{Packet}
 use Rattle.mc_journal.specs.Films.{Film, rank}
 use Rattle.mc_journal.specs.Ranges.{Range}
 use Rattle.mc_journal.specs.Readings.{selected, follows}
@@ -40,7 +40,7 @@ use Rattle.mc_demux.proofs.Droppings.{all_weigh, last_cut, current_cut}
 
 -- ---- one drop over the film's list
 
-pub record DropIs (ps : List Told) (set : Choice) (heads : Heads) (places : ℕ → ℕ) (track from to : ℕ) (current : Option RangeState) (others : List RangeState)
+pub record DropIs (ps : List Packet) (set : Choice) (heads : Heads) (places : ℕ → ℕ) (track from to : ℕ) (current : Option RangeState) (others : List RangeState)
     (current' : Option RangeState) (others' : List RangeState) : Type 0 where
   pub cuts : used.CutsIn ps set places track from to (option_map as_range current) (map as_range others)
   pub may : MayCut track from to (places track) (option_map as_range current) (map as_range others)
@@ -50,7 +50,7 @@ pub record DropIs (ps : List Told) (set : Choice) (heads : Heads) (places : ℕ 
   pub all_held : AllByRecursion (HoldsFilm ps) others'
   pub placed : IfSome current' (PlacesAre set heads places)
 
-drop_alone : (ps : List Told) (set : Choice) (heads : Heads) (places : ℕ → ℕ) (current current' : Option RangeState) (others' : List RangeState) (c : Cut)
+drop_alone : (ps : List Packet) (set : Choice) (heads : Heads) (places : ℕ → ℕ) (current current' : Option RangeState) (others' : List RangeState) (c : Cut)
     → IfSome current IsRange → IfSome current (λ r. r.set ≡ set) → IfSome current (HoldsFilm ps) → IfSome current (PlacesAre set heads places)
     → CutsFront heads current current' c → others' ≡ []
     → DropIs ps set heads places c.track (rank c.from) (rank c.to) current [] current' others'
@@ -71,7 +71,7 @@ drop_alone ps set heads places (Some r) (Some q) others' c i e all at x n =
       placed = d.placed;
     }
 
-pub drop_is : (ps : List Told) (set : Choice) (heads : Heads) (places : ℕ → ℕ) (current current' : Option RangeState) (others others' : List RangeState) (c : Cut)
+pub drop_is : (ps : List Packet) (set : Choice) (heads : Heads) (places : ℕ → ℕ) (current current' : Option RangeState) (others others' : List RangeState) (c : Cut)
     → IfSome current IsRange → AllByRecursion IsOther others → IfSome current (λ r. r.set ≡ set) → AllByRecursion (λ r. r.set ≡ set) others
     → IfSome current (HoldsFilm ps) → AllByRecursion (HoldsFilm ps) others → IfSome current (PlacesAre set heads places)
     → CutsRange heads current others current' others' c
@@ -95,13 +95,13 @@ told_rest : (ds : List used.Due) → used.are_told ds ≡ true → used.are_told
 told_rest [] h = refl
 told_rest (d ∷ ds) h = absurd (cc)
 
-still_due : (ps : List Told) (h : List DemuxRecord) → used.is_still ps h ≡ true → used.are_told (used.due ps h) ≡ true
+still_due : (ps : List Packet) (h : List DemuxRecord) → used.is_still ps h ≡ true → used.are_told (used.due ps h) ≡ true
 still_due ps h s =
     let one = and_parts (used.is_begun h) _ s in
     let two = and_parts (not (follows h)) _ one.1 in
     (and_parts (used.are_told (used.due ps h)) _ two.1).0
 
-still_after : (ps : List Told) (h : List DemuxRecord) (by bytes max : ℕ) (c : Cut) → used.is_still ps h ≡ true → used.is_still ps (Dropped by (removal_by (Limit bytes max) c) ∷ h) ≡ true
+still_after : (ps : List Packet) (h : List DemuxRecord) (by bytes max : ℕ) (c : Cut) → used.is_still ps h ≡ true → used.is_still ps (Dropped by (removal_by (Limit bytes max) c) ∷ h) ≡ true
 still_after ps h by bytes max c s = let e = told_rest (used.due ps h) (still_due ps h s) in rw e refl
 
 pub dropped_step : (film : Film) (limits : Limits) (set : Choice) (current current' : Option RangeState) (others others' : List RangeState) (heads : Heads)

@@ -12,7 +12,7 @@ use Rattle.mc_journal.specs.declared.record.Sought.{Sought as How}
 use Rattle.mc_journal.specs.declared.record.Sought.TheVariants.{Cached, Sent}
 use Rattle.mc_journal.specs.declared.record.DemuxRecord.{DemuxRecord}
 use Rattle.mc_journal.specs.declared.record.DemuxRecord.TheVariants.{Sought, Refused}
-use Rattle.mc_journal.specs.Told.{Told}
+use Rattle.mc_packet.specs.declared.packet.Packet.{Packet}
 use Rattle.mc_packet.specs.Choices.{is_distinct, is_empty, nothing}
 use Rattle.mc_journal.specs.Films.{Film}
 use Rattle.mc_journal.specs.Ranges.{Range, serves as film_serves, served_head}
@@ -83,15 +83,15 @@ goes_seeks old new by t dir how room some g =
 
 -- ---- over the film's list
 
-holds_one : (ps : List Told) (set : Choice) (o : Option RangeState) → IfSome o (HoldsFilm ps) → IfSome o (λ r. r.set ≡ set) → IfSome o (HoldsIn ps set)
+holds_one : (ps : List Packet) (set : Choice) (o : Option RangeState) → IfSome o (HoldsFilm ps) → IfSome o (λ r. r.set ≡ set) → IfSome o (HoldsIn ps set)
 holds_one ps set None h e = tt
 holds_one ps set (Some r) h e = record { film = h; set_is = e }
 
-holds_each : (ps : List Told) (set : Choice) (rs : List RangeState) → AllByRecursion (HoldsFilm ps) rs → AllByRecursion (λ r. r.set ≡ set) rs → AllByRecursion (HoldsIn ps set) rs
+holds_each : (ps : List Packet) (set : Choice) (rs : List RangeState) → AllByRecursion (HoldsFilm ps) rs → AllByRecursion (λ r. r.set ≡ set) rs → AllByRecursion (HoldsIn ps set) rs
 holds_each ps set [] h e = tt
 holds_each ps set (r ∷ rs) h e = (record { film = h.0; set_is = e.0 }, holds_each ps set rs h.1 e.1)
 
-pub holds_all : (ps : List Told) (set : Choice) (c : CacheState) → IfSome c.current (HoldsFilm ps) → AllByRecursion (HoldsFilm ps) c.others → AllByRecursion (λ r. r.set ≡ set) (ranges_of c) → HoldsAll ps set c
+pub holds_all : (ps : List Packet) (set : Choice) (c : CacheState) → IfSome c.current (HoldsFilm ps) → AllByRecursion (HoldsFilm ps) c.others → AllByRecursion (λ r. r.set ≡ set) (ranges_of c) → HoldsAll ps set c
 holds_all ps set c h hs e =
     let parts = by_front c.current c.others e in
     record { current = holds_one ps set c.current h parts.0; others = holds_each ps set c.others hs parts.1 }
@@ -100,16 +100,16 @@ holds_all ps set c h hs e =
     by_front None rs e = (tt, e)
     by_front (Some r) rs e = e
 
-pub film_one : (ps : List Told) (set : Choice) (o : Option RangeState) → IfSome o (HoldsIn ps set) → IfSome o (HoldsFilm ps)
+pub film_one : (ps : List Packet) (set : Choice) (o : Option RangeState) → IfSome o (HoldsIn ps set) → IfSome o (HoldsFilm ps)
 film_one ps set None h = tt
 film_one ps set (Some r) h = h.film
 
-film_each : (ps : List Told) (set : Choice) (rs : List RangeState) → AllByRecursion (HoldsIn ps set) rs → AllByRecursion (HoldsFilm ps) rs
+film_each : (ps : List Packet) (set : Choice) (rs : List RangeState) → AllByRecursion (HoldsIn ps set) rs → AllByRecursion (HoldsFilm ps) rs
 film_each ps set [] h = tt
 film_each ps set (r ∷ rs) h = (h.0.film, film_each ps set rs h.1)
 
 -- the ranges that the journal leaves are those of the cache
-pub stand_is : (ps : List Told) (h : List DemuxRecord) (c : CacheState) → (stand ps h).current ≡ option_map as_range c.current → (stand ps h).others ≡ map as_range c.others → stand ps h ≡ stand_of c
+pub stand_is : (ps : List Packet) (h : List DemuxRecord) (c : CacheState) → (stand ps h).current ≡ option_map as_range c.current → (stand ps h).others ≡ map as_range c.others → stand ps h ≡ stand_of c
 stand_is ps h c e f =
     ap (λ (o : Option Range). let s : Stand = record { current = o; others = (stand ps h).others } in s) e
     ∙ ap (λ (rs : List Range). let s : Stand = record { current = option_map as_range c.current; others = rs } in s) f
@@ -120,12 +120,12 @@ some_option : (o : Option RangeState) → is_some (option_map as_range o) ≡ is
 some_option None = refl
 some_option (Some r) = refl
 
-served_heads : (ps : List Told) (set : Choice) (heads : Heads) (t : ℤ) (dir : Dir) (r : RangeState) (o : Option Heads) → heads_of r set t dir ≡ o → is_some o ≡ true
+served_heads : (ps : List Packet) (set : Choice) (heads : Heads) (t : ℤ) (dir : Dir) (r : RangeState) (o : Option Heads) → heads_of r set t dir ≡ o → is_some o ≡ true
     → IfSome o (λ h. AreHeads set (served_head ps set dir t (as_range r)) h) → AreHeads set (served_head ps set dir t (as_range r)) (heads_or heads o)
 served_heads ps set heads t dir r None e s h = absurd (cc)
 served_heads ps set heads t dir r (Some x) e s h = h
 
-served_places : (ps : List Told) (set : Choice) (heads : Heads) (t : ℤ) (dir : Dir) (rs : List RangeState) (o : Option RangeState) → find (serves set t dir) rs ≡ o → is_distinct set ≡ true
+served_places : (ps : List Packet) (set : Choice) (heads : Heads) (t : ℤ) (dir : Dir) (rs : List RangeState) (o : Option RangeState) → find (serves set t dir) rs ≡ o → is_distinct set ≡ true
     → IfSome o IsRange → IfSome o (HoldsIn ps set)
     → IfSome o (PlacesAre set (heads_or heads (heads_in set t dir o)) (λ track. chosen_head ps set dir t track (option_map as_range o)))
 served_places ps set heads t dir rs None f d i h = tt
@@ -197,7 +197,7 @@ turned_keeps : (film : Film) (old : DemuxState) (turned : CacheState) (by : ℕ)
 turned_keeps film old turned by t dir Cached i s some it c how = cached_keeps film old turned by t dir i s some it c how
 turned_keeps film old turned by t dir Sent i s some it c how = sent_keeps film old turned by t dir i s some c how
 
-still_sought : (ps : List Told) (h : List DemuxRecord) (by : ℕ) (set : Choice) (t : ℤ) (dir : Dir) (how : How) → is_still ps h ≡ true → is_still ps (Sought by set t dir how ∷ h) ≡ true
+still_sought : (ps : List Packet) (h : List DemuxRecord) (by : ℕ) (set : Choice) (t : ℤ) (dir : Dir) (how : How) → is_still ps h ≡ true → is_still ps (Sought by set t dir how ∷ h) ≡ true
 still_sought ps h by set t dir how s = let off = no_follow ps h s in rw off refl
 
 -- ---- and then drops come

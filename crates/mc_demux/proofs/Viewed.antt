@@ -9,7 +9,7 @@ use Rattle.mc_packet.specs.declared.cache.RangeView.{RangeView}
 use Rattle.mc_packet.specs.declared.walk.Ending.{Ending}
 use Rattle.mc_journal.specs.declared.record.DemuxRecord.{DemuxRecord}
 use Rattle.mc_journal.specs.declared.record.DemuxRecord.TheVariants.{Opened, Sought, Gave, Ended, Shown}
-use Rattle.mc_journal.specs.Told.{Told}
+use Rattle.mc_packet.specs.declared.packet.Packet.{Packet}
 use Rattle.mc_packet.specs.Choices.{has, is_empty, is_track, lead_of, passes}
 use Rattle.mc_journal.specs.Choices.{each_of, kept_of, kept_track}
 use Rattle.mc_journal.specs.Films.{Film}
@@ -99,7 +99,7 @@ each_kept set test =
 -- ---- what is told
 
 -- a look at ranges of a set, of which each track is read on from a place
-abbrev view_by : List Told → Choice → (ℕ → ℕ) → Stand → List DemuxRecord → CacheView
+abbrev view_by : List Packet → Choice → (ℕ → ℕ) → Stand → List DemuxRecord → CacheView
 view_by ps set place st h = record {
   ranges = map (range_shown ps set) (stand_ranges st);
   forward = forward_in ps set place st.current;

@@ -11,7 +11,7 @@ use Rattle.mc_journal.specs.declared.record.DemuxRecord.TheVariants.{Failed as F
 use Rattle.mc_packet.specs.Choices.{has}
 use Rattle.mc_journal.specs.Choices.{kept_of}
 use Rattle.mc_journal.specs.Films.{Film, IsFilm, IsRegular, first_lane, rank, start_of, switch_start}
-use Rattle.mc_journal.specs.Told.{told}
+use Rattle.mc_packet.specs.declared.packet.Packet.{Packet}
 use Rattle.mc_journal.specs.Ranges.{within}
 use Rattle.mc_journal.specs.Allowed.{EachStart}
 use Rattle.mc_journal.specs.Readings.{selected, pending, waits, target, direction, last_fault, read_from}
@@ -82,5 +82,5 @@ AreStartsOf film starts _ = ⊤
 pub record IsPartOf (film : Film) (chunk : Chunk) : Type 0 where
   pub part : film.part chunk.from ≡ record { to = chunk.to; ending = chunk.ending }
   pub onward : chunk.from.pos ≤ chunk.to.pos
-  pub packets : map told chunk.packets ≡ within (first_lane chunk.from.pos) (first_lane chunk.to.pos) film.packets
+  pub packets : chunk.packets ≡ within (first_lane chunk.from.pos) (first_lane chunk.to.pos) film.packets
   pub ends : IfSome chunk.ending (λ e. (e ≡ film.ending) × AllByRecursion (λ p. p.pos.block < chunk.to.pos) film.packets)

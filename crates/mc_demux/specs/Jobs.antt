@@ -4,7 +4,6 @@ use Rattle.mc_packet.specs.declared.packet.Packet.{Packet}
 use Rattle.mc_packet.specs.declared.choice.Choice.{Choice}
 use Rattle.mc_packet.specs.declared.cache.Heads.{Heads}
 use Rattle.mc_packet.specs.declared.walk.Mark.{Mark}
-use Rattle.mc_journal.specs.Told.{told}
 use Rattle.mc_packet.specs.Choices.{is_empty, lead_of}
 use Rattle.mc_journal.specs.Choices.{meets}
 use Rattle.mc_journal.specs.Views.{wants_more, from_place}
@@ -23,7 +22,7 @@ use Rattle.mc_demux.specs.State.{DemuxState, ahead_in, forward_of}
 
 -- it has nothing there, or less than is read ahead
 abbrev pub wants : DemuxState → ℕ → Bool
-wants d track = wants_more d.cache.limits.readahead (map told (ahead_in d.set d.heads track d.cache.current))
+wants d track = wants_more d.cache.limits.readahead ((ahead_in d.set d.heads track d.cache.current))
 
 -- video and audio are asked, a subtitle where it is alone
 abbrev pub some_wants : DemuxState → Bool

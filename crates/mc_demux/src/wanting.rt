@@ -3,7 +3,7 @@ ghost use Rattle.std.specs.Prelude.{◌≡◌, ◌-ℤ◌, map};
 ghost use Rattle.std.specs.List.{list_all};
 ghost use Rattle.mc_journal.specs.Choices.{meets};
 ghost use Rattle.mc_journal.specs.Films.{rank};
-ghost use Rattle.mc_journal.specs.Told.{told};
+ghost use Rattle.mc_packet.specs.declared.packet.Packet.{Packet};
 ghost use Rattle.mc_journal.specs.Views.{wants_more};
 ghost use Rattle.mc_demux.specs.Demuxers.{IsDemux};
 ghost use Rattle.mc_demux.specs.Jobs.{is_full, some_wants, wants};
@@ -48,7 +48,7 @@ fn are_near(cache: &Cache, track: TrackNo, head: Pos, first: &Packet, limits: &L
 /// Whether a track has nothing at a place, or less from there on than is read ahead.
 #[tactic(auto, using(crate::proofs::Nearness::none_near))]
 fn wants_from(cache: &Cache, track: TrackNo, head: Pos) -> bool
-    ensures { result ≡ wants_more cache.now.limits.readahead (map told (held_from track head cache.now.current)) }
+    ensures { result ≡ wants_more cache.now.limits.readahead ((held_from track head cache.now.current)) }
 {
     let limits = cache.limits();
     match cache.first_at(track, head) {

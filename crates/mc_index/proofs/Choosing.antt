@@ -7,7 +7,7 @@ use Rattle.mc_packet.specs.declared.choice.Dir.TheVariants.{Back, Forward}
 use Rattle.mc_walk.specs.declared.plan.Plan.{Plan}
 use Rattle.mc_packet.specs.Choices.{or_else}
 use Rattle.mc_journal.specs.Films.{TimesRise, first, last, last_upto, first_from, sync_for, track_sync, time_or}
-use Rattle.mc_journal.specs.Told.{Told}
+use Rattle.mc_packet.specs.declared.packet.Packet.{Packet}
 use Rattle.mc_index.specs.declared.entry.Point.{Point}
 use Rattle.mc_index.specs.declared.search.Around.{Around}
 use Rattle.mc_index.specs.Answers.{IsAround}
@@ -16,7 +16,7 @@ use Rattle.mc_index.specs.Scans.{point_of}
 use Rattle.mc_index.specs.Searches.{IsNear, Rises, chosen, point_time}
 use Rattle.mc_index.proofs.Timing.{rise-front, rise-back, none-past, IsUpto}
 
-abbrev IsPast : ℤ → Option Told → Type 0
+abbrev IsPast : ℤ → Option Packet → Type 0
 IsPast t o = IfSome o (λ p. int_le p.time t ≡ false)
 
 -- ---- lists
@@ -29,23 +29,23 @@ or_else-assoc : {A : Type 0} (a b c : Option A) → or_else (or_else a b) c ≡ 
 or_else-assoc None b c = refl
 or_else-assoc (Some x) b c = refl
 
-upto-append : (t : ℤ) (xs ys : List Told) → last_upto t (xs ++ ys) ≡ or_else (last_upto t ys) (last_upto t xs)
+upto-append : (t : ℤ) (xs ys : List Packet) → last_upto t (xs ++ ys) ≡ or_else (last_upto t ys) (last_upto t xs)
 upto-append t [] ys = sym (or_else-none (last_upto t ys))
 upto-append t (x ∷ xs) ys =
-    let here : Option Told = if int_le x.time t then Some x else None in
+    let here : Option Packet = if int_le x.time t then Some x else None in
     ap (λ o. or_else o here) (upto-append t xs ys) ∙ or_else-assoc (last_upto t ys) (last_upto t xs) here
 
-from-append : (t : ℤ) (xs ys : List Told) → first_from t (xs ++ ys) ≡ or_else (first_from t xs) (first_from t ys)
+from-append : (t : ℤ) (xs ys : List Packet) → first_from t (xs ++ ys) ≡ or_else (first_from t xs) (first_from t ys)
 from-append t [] ys = refl
 from-append t (x ∷ xs) ys =
     elim (int_le t x.time) as (λ b. (if b then Some x else first_from t (xs ++ ys)) ≡ or_else (if b then Some x else first_from t xs) (first_from t ys))
     [ true ↦ refl | false ↦ from-append t xs ys ]
 
-last-append : (xs ys : List Told) → last (xs ++ ys) ≡ or_else (last ys) (last xs)
+last-append : (xs ys : List Packet) → last (xs ++ ys) ≡ or_else (last ys) (last xs)
 last-append [] ys = sym (or_else-none (last ys))
 last-append (x ∷ xs) ys = ap (λ o. or_else o (Some x)) (last-append xs ys) ∙ or_else-assoc (last ys) (last xs) (Some x)
 
-first-append : (xs ys : List Told) → first (xs ++ ys) ≡ or_else (first xs) (first ys)
+first-append : (xs ys : List Packet) → first (xs ++ ys) ≡ or_else (first xs) (first ys)
 first-append [] ys = refl
 first-append (x ∷ xs) ys = refl
 
@@ -69,7 +69,7 @@ not-false true e = refl
 not-false false e = absurd (cc e)
 
 -- where none is past the time, the last at it or before it is the last
-last-whole : (t : ℤ) (xs : List Told) → any_past t xs ≡ false → last_upto t xs ≡ last xs
+last-whole : (t : ℤ) (xs : List Packet) → any_past t xs ≡ false → last_upto t xs ≡ last xs
 last-whole t [] none = refl
 last-whole t (x ∷ xs) none =
     let both = or-none (not (int_le x.time t)) (any_past t xs) none in
@@ -77,7 +77,7 @@ last-whole t (x ∷ xs) none =
     rw (le, last-whole t xs both.1) refl
 
 -- where the first is past it, none is at it or before it
-none-upto : (t : ℤ) (ys : List Told) → TimesRise ys → IsPast t (first ys) → last_upto t ys ≡ None
+none-upto : (t : ℤ) (ys : List Packet) → TimesRise ys → IsPast t (first ys) → last_upto t ys ≡ None
 none-upto t [] rise past = refl
 none-upto t (y ∷ []) rise past = rw past refl
 none-upto t (y ∷ z ∷ zs) rise past =
@@ -85,12 +85,12 @@ none-upto t (y ∷ z ∷ zs) rise past =
     let none = none-upto t (z ∷ zs) rise.1 next in
     rw (none, past) refl
 
-abbrev is_told_at : ℤ → Option Told → Bool
+abbrev is_told_at : ℤ → Option Packet → Bool
 is_told_at t None = false
 is_told_at t (Some p) = int_le t p.time
 
 -- only the last of those that are not past it can be at it
-from-last : (t : ℤ) (xs : List Told) → TimesRise xs → IsUpto t (last xs) → first_from t xs ≡ (if is_told_at t (last xs) then last xs else None)
+from-last : (t : ℤ) (xs : List Packet) → TimesRise xs → IsUpto t (last xs) → first_from t xs ≡ (if is_told_at t (last xs) then last xs else None)
 from-last t [] rise upto = refl
 from-last t (x ∷ []) rise upto = refl
 from-last t (x ∷ y ∷ ys) rise upto =
@@ -100,41 +100,41 @@ from-last t (x ∷ y ∷ ys) rise upto =
     let le : int_le y.time t ≡ true = not-false (int_le y.time t) (or-none (not (int_le y.time t)) (any_past t ys) none).0 in
     let off : int_le t x.time ≡ false = before-not x.time y.time t rise.0.0 le in
     let on : first_from t (x ∷ y ∷ ys) ≡ first_from t (y ∷ ys) = rw off refl in
-    on ∙ from-last t (y ∷ ys) rise.1 upto' ∙ ap (λ (o : Option Told). if is_told_at t o then o else None) same
+    on ∙ from-last t (y ∷ ys) rise.1 upto' ∙ ap (λ (o : Option Packet). if is_told_at t o then o else None) same
   where
-    some-behind : (o : Option Told) (x y : Told) → or_else o (Some y) ≡ or_else (or_else o (Some y)) (Some x)
+    some-behind : (o : Option Packet) (x y : Packet) → or_else o (Some y) ≡ or_else (or_else o (Some y)) (Some x)
     some-behind None x y = refl
     some-behind (Some z) x y = refl
 
-from-first : (t : ℤ) (ys : List Told) → IsPast t (first ys) → first_from t ys ≡ first ys
+from-first : (t : ℤ) (ys : List Packet) → IsPast t (first ys) → first_from t ys ≡ first ys
 from-first t [] past = refl
 from-first t (y ∷ ys) past = let at : int_le t y.time ≡ true = past-le y.time t past in rw at refl
 
 -- ---- both directions
 
 -- where two runs meet at the time
-abbrev told_for : Dir → ℤ → Option Told → Option Told → Option Told
+abbrev told_for : Dir → ℤ → Option Packet → Option Packet → Option Packet
 told_for Back t before after = or_else before after
 told_for Forward t before after = if is_told_at t before then before else or_else after before
 
-last-or_first : (xs : List Told) (o : Option Told) → or_else (last xs) o ≡ or_else (last xs) (or_else (first xs) o)
+last-or_first : (xs : List Packet) (o : Option Packet) → or_else (last xs) o ≡ or_else (last xs) (or_else (first xs) o)
 last-or_first [] o = refl
 last-or_first (x ∷ xs) o = some-last (last xs) x o
   where
-    some-last : (p : Option Told) (x : Told) (o : Option Told) → or_else (or_else p (Some x)) o ≡ or_else (or_else p (Some x)) (Some x)
+    some-last : (p : Option Packet) (x : Packet) (o : Option Packet) → or_else (or_else p (Some x)) o ≡ or_else (or_else p (Some x)) (Some x)
     some-last None x o = refl
     some-last (Some z) x o = refl
 
-first-or_last : (ys : List Told) (o : Option Told) → or_else (first ys) o ≡ or_else (first ys) (or_else (last ys) o)
+first-or_last : (ys : List Packet) (o : Option Packet) → or_else (first ys) o ≡ or_else (first ys) (or_else (last ys) o)
 first-or_last [] o = refl
 first-or_last (y ∷ ys) o = refl
 
-at-cases : (t : ℤ) (o f l : Option Told) → or_else (or_else (if is_told_at t o then o else None) f) l ≡ (if is_told_at t o then o else or_else f l)
+at-cases : (t : ℤ) (o f l : Option Packet) → or_else (or_else (if is_told_at t o then o else None) f) l ≡ (if is_told_at t o then o else or_else f l)
 at-cases t None f l = refl
 at-cases t (Some p) f l =
     elim (int_le t p.time) as (λ b. or_else (or_else (if b then Some p else None) f) l ≡ (if b then Some p else or_else f l)) [ true ↦ refl | false ↦ refl ]
 
-pub sync-by : (dir : Dir) (t : ℤ) (xs ys : List Told) → TimesRise (xs ++ ys) → IsUpto t (last xs) → IsPast t (first ys)
+pub sync-by : (dir : Dir) (t : ℤ) (xs ys : List Packet) → TimesRise (xs ++ ys) → IsUpto t (last xs) → IsPast t (first ys)
     → sync_for dir t (xs ++ ys) ≡ told_for dir t (last xs) (first ys)
 sync-by Back t xs ys rise upto past =
     let rise' = rise-front xs ys rise in
@@ -147,7 +147,7 @@ sync-by Forward t xs ys rise upto past =
     let from : first_from t (xs ++ ys) ≡ or_else (if is_told_at t (last xs) then last xs else None) (first ys) =
     from-append t xs ys ∙ ap (λ o. or_else o (first_from t ys)) (from-last t xs rise' upto) ∙ ap (or_else (if is_told_at t (last xs) then last xs else None)) (from-first t ys past) in
     ap (λ o. or_else o (last (xs ++ ys))) from ∙ at-cases t (last xs) (first ys) (last (xs ++ ys))
-    ∙ ap (λ (o : Option Told). if is_told_at t (last xs) then last xs else o) (ap (or_else (first ys)) (last-append xs ys) ∙ sym (first-or_last ys (last xs)))
+    ∙ ap (λ (o : Option Packet). if is_told_at t (last xs) then last xs else o) (ap (or_else (first ys)) (last-append xs ys) ∙ sym (first-or_last ys (last xs)))
 
 -- ---- in short
 
@@ -155,7 +155,7 @@ map-or_else : {A B : Type 0} (f : A → B) (a b : Option A) → option_map f (or
 map-or_else f None b = refl
 map-or_else f (Some x) b = refl
 
-chosen-told : (plan : Plan) (dir : Dir) (t : ℤ) (before after : Option Told)
+chosen-told : (plan : Plan) (dir : Dir) (t : ℤ) (before after : Option Packet)
     → chosen dir t (record { before = option_map (point_of plan) before; after = option_map (point_of plan) after }) ≡ option_map (point_of plan) (told_for dir t before after)
 chosen-told plan Back t before after = sym (map-or_else (point_of plan) before after)
 chosen-told plan Forward t None after = sym (map-or_else (point_of plan) after None)
@@ -195,6 +195,6 @@ near-before plan track t a around rise =
     upto-append t around.earlier around.later ∙ ap (λ o. or_else o (last_upto t around.earlier)) none ∙ all in
     around.before ∙ ap (option_map (point_of plan)) (sym upto ∙ ap (last_upto t) (sym around.whole))
 
-pub time-of : (plan : Plan) (t : ℤ) (o : Option Told) (p : Option Point) → p ≡ option_map (point_of plan) o → point_time t p ≡ time_or t o
+pub time-of : (plan : Plan) (t : ℤ) (o : Option Packet) (p : Option Point) → p ≡ option_map (point_of plan) o → point_time t p ≡ time_or t o
 time-of plan t None p e = ap (point_time t) e
 time-of plan t (Some q) p e = ap (point_time t) e

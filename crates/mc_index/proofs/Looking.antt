@@ -14,7 +14,6 @@ use Rattle.mc_cursor.specs.Heads.{head_chunk_of}
 use Rattle.mc_cursor.specs.Standing.{ReadsPart}
 use Rattle.mc_packet.specs.Choices.{or_else}
 use Rattle.mc_journal.specs.Films.{TimesRise, first, last, syncs}
-use Rattle.mc_journal.specs.Told.{Told, told}
 use Rattle.mc_index.specs.declared.entry.Point.{Point}
 use Rattle.mc_index.specs.declared.search.Since.{Since}
 use Rattle.mc_index.specs.declared.search.Found.{Found}
@@ -111,19 +110,19 @@ film-points : (plan : Plan) (n : ℕ) (m : Mark) (ps : List Packet) (track : ℕ
 film-points plan n m ps track is front =
     ap (λ (r : Rest). syncs track (told_all r.0)) (front-whole plan n m ps is front) ∙ syncs-append track ps (rest_from plan m).0
 
-first-append : (xs ys : List Told) → first (xs ++ ys) ≡ or_else (first xs) (first ys)
+first-append : (xs ys : List Packet) → first (xs ++ ys) ≡ or_else (first xs) (first ys)
 first-append [] ys = refl
 first-append (x ∷ xs) ys = refl
 
-one-only : (b : Bool) (p : Told) → last (if b then p ∷ [] else []) ≡ first (if b then p ∷ [] else [])
+one-only : (b : Bool) (p : Packet) → last (if b then p ∷ [] else []) ≡ first (if b then p ∷ [] else [])
 one-only true p = refl
 one-only false p = refl
 
 shown-one : (track : ℕ) (ps : List Packet) → last (shown track ps) ≡ first (shown track ps)
 shown-one track [] = refl
-shown-one track (p ∷ ps) = one-only (p.track == track && p.key) (told p)
+shown-one track (p ∷ ps) = one-only (p.track == track && p.key) (p)
 
-map-first : (plan : Plan) (xs ys : List Told) (p : Point) → Some p ≡ option_map (point_of plan) (first xs) → Some p ≡ option_map (point_of plan) (first (xs ++ ys))
+map-first : (plan : Plan) (xs ys : List Packet) (p : Point) → Some p ≡ option_map (point_of plan) (first xs) → Some p ≡ option_map (point_of plan) (first (xs ++ ys))
 map-first plan [] ys p e = absurd (cc e)
 map-first plan (x ∷ xs) ys p e = e
 
@@ -168,7 +167,7 @@ around-ended plan track t s ending is since ends =
 
 -- ---- how far is read
 
-abbrev points_of : ℕ → List Packet → List Told
+abbrev points_of : ℕ → List Packet → List Packet
 points_of track ps = syncs track (told_all ps)
 
 -- what was read up to a mark shows no later sync point

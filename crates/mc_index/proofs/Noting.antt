@@ -14,7 +14,6 @@ use Rattle.mc_cursor.specs.declared.head.HeadChunk.{HeadChunk}
 use Rattle.mc_cursor.specs.Heads.{head_chunk_of}
 use Rattle.mc_packet.specs.Choices.{or_else}
 use Rattle.mc_journal.specs.Films.{last, syncs}
-use Rattle.mc_journal.specs.Told.{Told, told}
 use Rattle.mc_index.specs.declared.entry.Point.{Point}
 use Rattle.mc_index.specs.declared.entry.LastSync.{LastSync}
 use Rattle.mc_index.specs.declared.entry.Entry.{Entry}
@@ -29,7 +28,7 @@ use Rattle.mc_index.proofs.Marking.{mark-first}
 -- ---- the sync points of a block element
 
 pub syncs-append : (track : ℕ) (ps qs : List Packet) → syncs track (told_all (ps ++ qs)) ≡ syncs track (told_all ps) ++ syncs track (told_all qs)
-syncs-append track ps qs = ap (syncs track) (map-append told ps qs) ∙ filter-append (λ (p : Told). p.track == track && p.sync) (told_all ps) (told_all qs)
+syncs-append track ps qs = ap (syncs track) (map-append ps qs) ∙ filter-append (λ (p : Packet). p.track == track && p.sync) (told_all ps) (told_all qs)
 
 and-false : (b : Bool) → (b && false) ≡ false
 and-false true = refl
@@ -40,9 +39,9 @@ later-none track [] later = refl
 later-none track (p ∷ ps) later = rw (later.0, and-false (p.track == track)) (later-none track ps later.1)
 
 -- the one sync point of a track among a block element's packets, if it has one
-abbrev pub shown : ℕ → List Packet → List Told
+abbrev pub shown : ℕ → List Packet → List Packet
 shown track [] = []
-shown track (p ∷ ps) = if p.track == track && p.key then told p ∷ [] else []
+shown track (p ∷ ps) = if p.track == track && p.key then p ∷ [] else []
 
 pub syncs-shown : (track : ℕ) (ps : List Packet) → AreSynced ps → syncs track (told_all ps) ≡ shown track ps
 syncs-shown track [] synced = refl
@@ -58,7 +57,7 @@ or_else-assoc : {A : Type 0} (a b c : Option A) → or_else (or_else a b) c ≡ 
 or_else-assoc None b c = refl
 or_else-assoc (Some x) b c = refl
 
-pub last-append : (xs ys : List Told) → last (xs ++ ys) ≡ or_else (last ys) (last xs)
+pub last-append : (xs ys : List Packet) → last (xs ++ ys) ≡ or_else (last ys) (last xs)
 last-append [] ys = sym (or_else-none (last ys))
 last-append (x ∷ xs) ys = ap (λ o. or_else o (Some x)) (last-append xs ys) ∙ or_else-assoc (last ys) (last xs) (Some x)
 
@@ -66,7 +65,7 @@ map-or_else : {A B : Type 0} (f : A → B) (a b : Option A) → option_map f (or
 map-or_else f None b = refl
 map-or_else f (Some x) b = refl
 
-one-shown : (f : Told → Point) (b : Bool) (p : Told) (x : Point) → f p ≡ x → (if b then Some x else None) ≡ option_map f (last (if b then p ∷ [] else []))
+one-shown : (f : Packet → Point) (b : Bool) (p : Packet) (x : Point) → f p ≡ x → (if b then Some x else None) ≡ option_map f (last (if b then p ∷ [] else []))
 one-shown f true p x e = ap Some (sym e)
 one-shown f false p x e = refl
 
@@ -76,7 +75,7 @@ point-by : (plan : Plan) (k : HeadChunk) (track : ℕ) (ps : List Packet) → Ar
     → track_point track k (first_mark ps) ≡ option_map (point_of plan) (last (shown track ps))
 point-by plan k track [] synced at = refl
 point-by plan k track (q ∷ qs) synced at =
-    one-shown (point_of plan) (q.track == track && q.key) (told q) (key_point k (block_mark q))
+    one-shown (point_of plan) (q.track == track && q.key) (q) (key_point k (block_mark q))
     (ap (λ (m : Mark). let x : Point = record { time = q.time; mark = m } in x) (at q qs refl))
 
 pub point-is : (plan : Plan) (n : ℕ) (m : Mark) (ps : List Packet) (track : ℕ) → IsPlan plan → Front plan n m ps

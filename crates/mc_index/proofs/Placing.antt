@@ -16,7 +16,6 @@ use Rattle.mc_walk.specs.Parts.{opening_mark}
 use Rattle.mc_walk.specs.Walk.{film_walk}
 use Rattle.mc_packet.specs.Choices.{or_else}
 use Rattle.mc_journal.specs.Films.{first, last}
-use Rattle.mc_journal.specs.Told.{Told, told}
 use Rattle.mc_journal.specs.Used.{least_start, place_of_starts}
 use Rattle.mc_index.specs.declared.entry.Point.{Point}
 use Rattle.mc_index.specs.declared.search.Around.{Around}
@@ -28,38 +27,38 @@ use Rattle.mc_index.proofs.Marking.{mark-pos}
 
 -- ---- the film's packets
 
-abbrev IsToldOf : List Packet → Told → Type 0
-IsToldOf film p = (q : Packet) × Contains film q × (p ≡ told q)
+abbrev IsToldOf : List Packet → Packet → Type 0
+IsToldOf film p = (q : Packet) × Contains film q × (p ≡ q)
 
 contains-first : (q : Packet) (qs : List Packet) → Contains (q ∷ qs) q
 contains-first q qs = Contains-append_left (q ∷ []) qs q (Contains-push [] q)
 
 all-told : (film ps : List Packet) → ((q : Packet) → Contains ps q → Contains film q) → AllByRecursion (IsToldOf film) (told_all ps)
-all-told film [] on = tt
-all-told film (q ∷ qs) on = ((q, on q (contains-first q qs), refl), all-told film qs (λ r h. on r (Contains-append_right (q ∷ []) qs r h)))
+all-film [] on = tt
+all-film (q ∷ qs) on = ((q, on q (contains-first q qs), refl), all-film qs (λ r h. on r (Contains-append_right (q ∷ []) qs r h)))
 
-all-kept : (P : Told → Type 0) (test : Told → Bool) (xs : List Told) → AllByRecursion P xs → AllByRecursion P (filter test xs)
+all-kept : (P : Packet → Type 0) (test : Packet → Bool) (xs : List Packet) → AllByRecursion P xs → AllByRecursion P (filter test xs)
 all-kept P test [] h = tt
 all-kept P test (x ∷ xs) h =
     elim (test x) as (λ b. AllByRecursion P (if b then x ∷ filter test xs else filter test xs)) [ true ↦ (h.0, all-kept P test xs h.1) | false ↦ all-kept P test xs h.1 ]
 
-all-front : (P : Told → Type 0) (xs ys : List Told) → AllByRecursion P (xs ++ ys) → AllByRecursion P xs
+all-front : (P : Packet → Type 0) (xs ys : List Packet) → AllByRecursion P (xs ++ ys) → AllByRecursion P xs
 all-front P [] ys all = tt
 all-front P (x ∷ xs) ys all = (all.0, all-front P xs ys all.1)
 
-all-back : (P : Told → Type 0) (xs ys : List Told) → AllByRecursion P (xs ++ ys) → AllByRecursion P ys
+all-back : (P : Packet → Type 0) (xs ys : List Packet) → AllByRecursion P (xs ++ ys) → AllByRecursion P ys
 all-back P [] ys all = all
 all-back P (x ∷ xs) ys all = all-back P xs ys all.1
 
-some-or_else : (P : Told → Type 0) (o : Option Told) (x : Told) → IfSome o P → P x → IfSome (or_else o (Some x)) P
+some-or_else : (P : Packet → Type 0) (o : Option Packet) (x : Packet) → IfSome o P → P x → IfSome (or_else o (Some x)) P
 some-or_else P None x h p = p
 some-or_else P (Some y) x h p = h
 
-last-all : (P : Told → Type 0) (xs : List Told) → AllByRecursion P xs → IfSome (last xs) P
+last-all : (P : Packet → Type 0) (xs : List Packet) → AllByRecursion P xs → IfSome (last xs) P
 last-all P [] all = tt
 last-all P (x ∷ xs) all = some-or_else P (last xs) x (last-all P xs all.1) all.0
 
-first-all : (P : Told → Type 0) (xs : List Told) → AllByRecursion P xs → IfSome (first xs) P
+first-all : (P : Packet → Type 0) (xs : List Packet) → AllByRecursion P xs → IfSome (first xs) P
 first-all P [] all = tt
 first-all P (x ∷ xs) all = all.0
 
@@ -76,29 +75,29 @@ opening-placed plan = record { start = inl refl; mark = refl }
 abbrev pub IsKnown : Plan → Option Point → Type 0
 IsKnown plan p = IfSome p (λ x. IsPlaced plan x.mark)
 
-told-placed : (plan : Plan) (p : Told) → IsToldOf (film_walk plan).0 p → IsPlaced plan (mark_at plan p.pos.block)
+told-placed : (plan : Plan) (p : Packet) → IsToldOf (film_walk plan).0 p → IsPlaced plan (mark_at plan p.pos.block)
 told-placed plan p of =
     let at = mark-pos plan p.pos.block in
-    let block : of.0.pos.block ≡ (mark_at plan p.pos.block).pos = ap (λ (x : Told). x.pos.block) (sym of.2) ∙ sym at in
+    let block : of.0.pos.block ≡ (mark_at plan p.pos.block).pos = ap (λ (x : Packet). x.pos.block) (sym of.2) ∙ sym at in
     record { start = inr (of.0, of.1, block); mark = ap (mark_at plan) (sym at) }
 
-known-by : (plan : Plan) (o : Option Told) (p : Option Point) → p ≡ option_map (point_of plan) o → IfSome o (IsToldOf (film_walk plan).0) → IsKnown plan p
+known-by : (plan : Plan) (o : Option Packet) (p : Option Point) → p ≡ option_map (point_of plan) o → IfSome o (IsToldOf (film_walk plan).0) → IsKnown plan p
 known-by plan None p e of = subst (IsKnown plan) (sym e) tt
 known-by plan (Some q) p e of = subst (IsKnown plan) (sym e) (told-placed plan q of)
 
 points-told : (plan : Plan) (track : ℕ) → AllByRecursion (IsToldOf (film_walk plan).0) (film_points plan track)
-points-told plan track = all-kept (IsToldOf (film_walk plan).0) (λ p. p.track == track && p.sync) (film_told plan) (all-told (film_walk plan).0 (film_walk plan).0 (λ q h. h))
+points-plan track = all-kept (IsToldOf (film_walk plan).0) (λ p. p.track == track && p.sync) (film_told plan) (all-(film_walk plan).0 (film_walk plan).0 (λ q h. h))
 
 pub before-known : (plan : Plan) (track : ℕ) (t : ℤ) (a : Around) → IsAround plan track t a → IsKnown plan a.before
 before-known plan track t a around =
     let P = IsToldOf (film_walk plan).0 in
-    let all = subst (AllByRecursion P) around.whole (points-told plan track) in
+    let all = subst (AllByRecursion P) around.whole (points-plan track) in
     known-by plan (last around.earlier) a.before around.before (last-all P around.earlier (all-front P around.earlier around.later all))
 
 pub after-known : (plan : Plan) (track : ℕ) (t : ℤ) (a : Around) → IsAround plan track t a → IsKnown plan a.after
 after-known plan track t a around =
     let P = IsToldOf (film_walk plan).0 in
-    let all = subst (AllByRecursion P) around.whole (points-told plan track) in
+    let all = subst (AllByRecursion P) around.whole (points-plan track) in
     known-by plan (first around.later) a.after around.after (first-all P around.later (all-back P around.earlier around.later all))
 
 or_else-known : (plan : Plan) (p q : Option Point) → IsKnown plan p → IsKnown plan q → IsKnown plan (or_else p q)

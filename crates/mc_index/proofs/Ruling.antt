@@ -13,7 +13,6 @@ use Rattle.mc_walk.specs.declared.plan.Plan.{Plan}
 use Rattle.mc_packet.specs.Choices.{passes, is_known, is_distinct, is_other, is_track}
 use Rattle.mc_journal.specs.Films.{IsRegular, is_listed, block_of, time_or, sync_for, track_sync, video_sync, audio_sync, audio_dir, least_of, start_of, last_for, switch_start, film_syncs}
 use Rattle.mc_journal.specs.Films.{start_by as rule_start}
-use Rattle.mc_journal.specs.Told.{Told}
 use Rattle.mc_journal.proofs.Starting.{video_listed, audio_listed}
 use Rattle.mc_index.specs.declared.entry.Point.{Point}
 use Rattle.mc_index.specs.declared.search.Around.{Around}
@@ -65,7 +64,7 @@ own k = eq-eqb k k refl
 
 -- ---- the starts of a seek
 
-block-of : (plan : Plan) (o : Option Told) → (point_mark (option_map (point_of plan) o)).pos ≡ block_of o
+block-of : (plan : Plan) (o : Option Packet) → (point_mark (option_map (point_of plan) o)).pos ≡ block_of o
 block-of plan None = refl
 block-of plan (Some p) = mark-pos plan p.pos.block
 
@@ -75,16 +74,16 @@ least-start None (Some k) p q = refl
 least-start (Some k) None p q = refl
 least-start (Some k) (Some j) p q = min-by (point_mark p) (point_mark q)
 
-abbrev point_in : Plan → Option Told → Option Point
+abbrev point_in : Plan → Option Packet → Option Point
 point_in plan o = option_map (point_of plan) o
 
-video-start : (plan : Plan) (set : Choice) (V A : Option Told) (o : Option ℕ) → set.video ≡ o → start_by (track_mark o (point_in plan V)) ≡ option_map (rule_start set V A) o
+video-start : (plan : Plan) (set : Choice) (V A : Option Packet) (o : Option ℕ) → set.video ≡ o → start_by (track_mark o (point_in plan V)) ≡ option_map (rule_start set V A) o
 video-start plan set V A None e = refl
 video-start plan set V A (Some k) e =
     let mine : is_track set.video k ≡ true = ap (λ (x : Option ℕ). is_track x k) e ∙ own k in
     rw mine (ap Some (block-of plan V))
 
-audio-start : (plan : Plan) (set : Choice) (V A : Option Told) (o : Option ℕ) → set.audio ≡ o → is_distinct set ≡ true
+audio-start : (plan : Plan) (set : Choice) (V A : Option Packet) (o : Option ℕ) → set.audio ≡ o → is_distinct set ≡ true
     → start_by (track_mark o (point_in plan A)) ≡ option_map (rule_start set V A) o
 audio-start plan set V A None e distinct = refl
 audio-start plan set V A (Some k) e distinct =
@@ -93,7 +92,7 @@ audio-start plan set V A (Some k) e distinct =
     let mine : is_track set.audio k ≡ true = ap (λ (x : Option ℕ). is_track x k) e ∙ own k in
     rw (video, mine) (ap Some (block-of plan A))
 
-sub-start : (plan : Plan) (set : Choice) (V A : Option Told) (o : Option ℕ) → set.sub ≡ o → is_distinct set ≡ true
+sub-start : (plan : Plan) (set : Choice) (V A : Option Packet) (o : Option ℕ) → set.sub ≡ o → is_distinct set ≡ true
     → start_by (sub_mark o (least_mark (track_mark set.video (point_in plan V)) (track_mark set.audio (point_in plan A)))) ≡ option_map (rule_start set V A) o
 sub-start plan set V A None e distinct = refl
 sub-start plan set V A (Some k) e distinct =
@@ -106,14 +105,14 @@ sub-start plan set V A (Some k) e distinct =
     rw (video, audio) (ap Some (least-start set.video set.audio (point_in plan V) (point_in plan A) ∙ ap (λ n. least_of set.video set.audio n (point_mark (point_in plan A)).pos) (block-of plan V)
     ∙ ap (least_of set.video set.audio (block_of V)) (block-of plan A)))
 
-points-start : (plan : Plan) (set : Choice) (V A : Option Told) → is_distinct set ≡ true → AreStarts set (rule_start set V A) (seek_starts set (point_in plan V) (point_in plan A))
+points-start : (plan : Plan) (set : Choice) (V A : Option Packet) → is_distinct set ≡ true → AreStarts set (rule_start set V A) (seek_starts set (point_in plan V) (point_in plan A))
 points-start plan set V A distinct = record {
   video = video-start plan set V A set.video refl;
   audio = audio-start plan set V A set.audio refl distinct;
   sub = sub-start plan set V A set.sub refl distinct;
 }
 
-abbrev video_of : Plan → Choice → Dir → ℤ → Option Told
+abbrev video_of : Plan → Choice → Dir → ℤ → Option Packet
 video_of plan set dir t = video_sync (film_syncs (film_told plan)) set dir t
 
 pub seek-time : (plan : Plan) (set : Choice) (dir : Dir) (t : ℤ) (a : Around) → IsNear plan set.video t a → Rises plan set.video

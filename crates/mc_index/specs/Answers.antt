@@ -8,7 +8,6 @@ use Rattle.mc_packet.specs.declared.packet.Packet.{Packet}
 use Rattle.mc_packet.specs.declared.walk.Mark.{Mark}
 use Rattle.mc_walk.specs.declared.plan.Plan.{Plan}
 use Rattle.mc_walk.specs.Walk.{film_walk}
-use Rattle.mc_journal.specs.Told.{Told}
 use Rattle.mc_packet.specs.Choices.{is_known, passes}
 use Rattle.mc_journal.specs.Films.{IsRegular, is_listed, syncs, first, last, film_syncs, video_sync, time_or, start_of, switch_start}
 use Rattle.mc_journal.specs.Used.{place_of_starts}
@@ -22,8 +21,8 @@ use Rattle.mc_index.specs.Scans.{point_of}
 -- the film's sync points of a track fall into two runs: the last of the first one, if any, is at the time or before it, and
 -- the first of the second one, if any, is later
 pub record IsAround (plan : Plan) (track : ℕ) (t : ℤ) (a : Around) : Type 0 where
-  pub earlier : List Told
-  pub later : List Told
+  pub earlier : List Packet
+  pub later : List Packet
   pub whole : film_points plan track ≡ earlier ++ later
   pub before : a.before ≡ option_map (point_of plan) (last earlier)
   pub upto : IfSome (last earlier) (λ p. int_le p.time t ≡ true)

@@ -13,7 +13,6 @@ use Rattle.mc_tracks.specs.TrackList.{numbered, is_of}
 use Rattle.mc_walk.specs.declared.plan.Plan.{Plan}
 use Rattle.mc_walk.specs.Parts.{mark, opening_mark, part_at}
 use Rattle.mc_walk.specs.Walk.{steps, film_walk}
-use Rattle.mc_journal.specs.Told.{Told, told}
 use Rattle.mc_journal.specs.Films.{syncs}
 
 -- a film read up to a mark: so many block elements stand before it, with these packets
@@ -25,14 +24,14 @@ pub data Front (plan : Plan) : ℕ → Mark → List Packet → Type 0 where
 -- ---- the film's list
 
 -- packets, as a journal tells them
-abbrev pub told_all : List Packet → List Told
-told_all packets = map told packets
+abbrev pub told_all : List Packet → List Packet
+told_all packets = packets
 
-abbrev pub film_told : Plan → List Told
+abbrev pub film_told : Plan → List Packet
 film_told plan = told_all (film_walk plan).0
 
 -- the film's sync points of a track
-abbrev pub film_points : Plan → ℕ → List Told
+abbrev pub film_points : Plan → ℕ → List Packet
 film_points plan track = syncs track (film_told plan)
 
 abbrev pub is_readable : Kind → Track → Bool
@@ -51,7 +50,7 @@ abbrev pub leads_of : List Track → List ℕ
 leads_of tracks = map (λ (t : Track). t.no) (filter (λ (t : Track). is_readable Video t || is_readable Audio t) tracks)
 
 -- a sync point later than a time
-abbrev pub any_past : ℤ → List Told → Bool
+abbrev pub any_past : ℤ → List Packet → Bool
 any_past t [] = false
 any_past t (p ∷ ps) = not (int_le p.time t) || any_past t ps
 

@@ -5,9 +5,8 @@ use Rattle.mc_packet.specs.declared.packet.Packet.{Packet}
 use Rattle.mc_outside.specs.Shelf.{Files, Opened, content_of}
 use Rattle.mc_walk.specs.declared.plan.Plan.{Plan}
 use Rattle.mc_cursor.specs.declared.cursor.Cursor.{Cursor}
-use Rattle.mc_cursor.specs.Reads.{Told as IfTold}
+use Rattle.mc_cursor.specs.Reads.{Packet as IfTold}
 use Rattle.mc_cursor.specs.Standing.{plan_for, file_of, StandsFor}
-use Rattle.mc_journal.specs.Told.{Told}
 use Rattle.mc_journal.specs.Films.{last, syncs}
 use Rattle.mc_index.specs.declared.entry.Point.{Point}
 use Rattle.mc_index.specs.declared.entry.LastSync.{LastSync}
@@ -20,7 +19,7 @@ abbrev pub IsPlan : Plan → Type 0
 IsPlan plan = (0 < plan.opening) × (plan.opening ≤ length plan.octets)
 
 -- a sync point in short: its time, and the mark at its block
-abbrev pub point_of : Plan → Told → Point
+abbrev pub point_of : Plan → Packet → Point
 point_of plan p = record { time = p.time; mark = mark_at plan p.pos.block }
 
 -- the last sync point of a track among packets

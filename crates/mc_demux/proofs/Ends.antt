@@ -13,6 +13,7 @@ use Rattle.mc_journal.specs.declared.record.DemuxRecord.TheVariants.{Opened, Sou
 use Rattle.mc_packet.specs.declared.packet.Packet.{Packet}
 use Rattle.mc_packet.specs.Choices.{is_track, has}
 use Rattle.mc_journal.specs.Choices.{meets}
+use Rattle.mc_journal.specs.Told.{told}
 use Rattle.mc_journal.specs.Films.{Film, IsFilm, at, first, first_lane, rank, track_of}
 use Rattle.mc_journal.specs.Ranges.{Range, Span, in_span, within}
 use Rattle.mc_journal.specs.Readings.{selected, pending, waits}
@@ -127,7 +128,7 @@ stays_done film (Gave by n pos time len sum sync key ∷ h) k fi al sel e = elim
       let same : n ≡ k = eqb-true n k y in
       let none : next film.packets h n ≡ None =
       subst (λ i. next film.packets h i ≡ None) (sym same) (rest-none film.packets k (head film.packets k h) (stand film.packets h).current d.none) in
-      absurd (let some = al.0.1 in cc)
+      absurd (subst (λ (o : Option Packet). IsSomeAnd o (λ p. told p ≡ record { track = n; pos = pos; time = time; len = len; sum = sum; sync = sync; key = key })) none al.0.1)
   | inr o ↦ let d = stays_done film h k fi al.1 sel e in record { found = d.found; placed = d.placed; none = rw o d.none }
 ]
 stays_done film (Ended by n ending ∷ h) k fi al sel e = elim (cases_Bool (n == k)) [

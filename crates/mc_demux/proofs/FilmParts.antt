@@ -27,7 +27,7 @@ use Rattle.mc_range.specs.Range.{RangeState, IsRange, QueueIn, as_range, queue_o
 use Rattle.mc_range.specs.Growing.{news, of_track, taker, takes, track_with}
 use Rattle.mc_range.specs.Serving.{HoldsFilm}
 use Rattle.mc_range.specs.Filmed.{IsPart}
-use Rattle.mc_range.proofs.Telling.{kept_swap, none_within, told_kept}
+use Rattle.mc_range.proofs.Telling.{kept_swap, none_within}
 use Rattle.mc_range.proofs.Unions.{audio_is, sub_is, video_is}
 use Rattle.mc_cache.specs.Cache.{CacheState, in_front, mark_in, ranges_of}
 use Rattle.mc_cache.specs.Filmed.{HoldsAll, HoldsIn}
@@ -50,17 +50,16 @@ use Rattle.mc_demux.proofs.Settled.{settled}
 
 -- ---- which track takes packets
 
-told_news : (ps : List Packet) (q : QueueState) (a b : ℕ) (cs : List Packet) → cs ≡ within a b ps → a ≤ rank q.to
+film_news : (ps : List Packet) (q : QueueState) (a b : ℕ) (cs : List Packet) → cs ≡ within a b ps → a ≤ rank q.to
     → (news cs q) ≡ within (rank q.to) b (track_of q.track ps)
-told_news ps q a b cs e l =
-    told_kept (is_from (rank q.to)) (λ p. nat_le (rank q.to) (at p)) (λ p. refl) (of_track q.track cs)
-    ∙ ap (λ xs. from_place (rank q.to) xs) (told_kept (λ p. p.track == q.track) (λ p. p.track == q.track) (λ p. refl) cs
-    ∙ ap (λ xs. track_of q.track xs) e ∙ kept_swap (λ p. p.track == q.track) _ ps)
+film_news ps q a b cs e l =
+    ap (λ xs. from_place (rank q.to) (track_of q.track xs)) e
+    ∙ ap (λ xs. from_place (rank q.to) xs) (kept_swap (λ p. p.track == q.track) _ ps)
     ∙ within-cut a (rank q.to) b (track_of q.track ps) l
 
-track_told : (track : ℕ) (cs : List Packet) → track_with track cs ≡ (if is_some (first (cs)) then Some track else None)
-track_told track [] = refl
-track_told track (c ∷ cs) = refl
+track_taken : (track : ℕ) (cs : List Packet) → track_with track cs ≡ (if is_some (first (cs)) then Some track else None)
+track_taken track [] = refl
+track_taken track (c ∷ cs) = refl
 
 if_gains : (ps : List Packet) (q : QueueState) (b : ℕ) → is_some (first (within (rank q.to) (first_lane b) (track_of q.track ps))) ≡ gains ps b q.track (Some (span_of q))
 if_gains ps q b = elim (cases_Bool (nat_le (rank q.to) (first_lane b))) [
@@ -84,8 +83,8 @@ kind_takes ps r a b cs (Some k) (Some q) e m i f =
     let reach = i.1 in
     let l : a ≤ rank q.to = rw m reach in
     let all : track_with q.track (news cs q) ≡ (if gains ps b q.track (Some (span_of q)) then Some q.track else None) =
-    track_told q.track (news cs q)
-    ∙ ap (λ (xs : List Packet). if is_some (first xs) then Some q.track else None) (told_news ps q a (first_lane b) cs e l)
+    track_taken q.track (news cs q)
+    ∙ ap (λ (xs : List Packet). if is_some (first xs) then Some q.track else None) (film_news ps q a (first_lane b) cs e l)
     ∙ ap (λ (t : Bool). if t then Some q.track else None) (if_gains ps q b) in
     rw x (subst (λ (n : ℕ). track_with q.track (news cs q) ≡ (if gains ps b n (Some (span_of q)) then Some n else None)) (sym same) all)
   where

@@ -10,7 +10,7 @@ use Rattle.mc_packet.specs.declared.choice.Choice.{Choice}
 use Rattle.mc_packet.specs.declared.cache.Heads.{Heads}
 use Rattle.mc_packet.specs.declared.cache.Limits.{Limits}
 use Rattle.mc_journal.specs.declared.record.DemuxRecord.{DemuxRecord}
-use Rattle.mc_journal.specs.Told.{gave_by}
+use Rattle.mc_journal.specs.Told.{gave_by, told}
 use Rattle.mc_packet.specs.Choices.{is_track, has}
 use Rattle.mc_journal.specs.Films.{Film, at, rank, first, track_of}
 use Rattle.mc_journal.specs.Ranges.{Range, Span, within, in_span}
@@ -112,24 +112,29 @@ places_one set heads track pos n (Some r) sel h = λ j. place_one set heads trac
 
 -- ---- the step
 
+-- the packet at the head is told as it is
+is_told : (film : Film) (h : List DemuxRecord) (p : Packet) → next film.packets h p.track ≡ Some p
+    → IsSomeAnd (next film.packets h p.track) (λ q. told q ≡ told p)
+is_told film h p e = subst (λ (o : Option Packet). IsSomeAnd o (λ q. told q ≡ told p)) (sym e) refl
+
 pub gave_step : (film : Film) (limits : Limits) (set : Choice) (current : Option RangeState) (others : List RangeState) (heads : Heads)
     (seeking : Option Target) (waiting : Choice) (switch : Switch) (failure : Option Failure) (ended : Choice) (h : List DemuxRecord) (by track : ℕ) (p : Packet)
     → Fits film limits set current others heads seeking waiting switch failure ended h → is_still film.packets h ≡ true
     → has set track ≡ true → next_in set heads track current ≡ Some p
     → Fits film limits set current others (with_head set track (past p.pos) heads) seeking waiting switch failure ended (gave_by by p ∷ h)
 gave_step film limits set current others heads seeking waiting switch failure ended h by track p f still sel is =
-    let here : next film.packets h track ≡ Some (p) =
-    next-is film limits set current others heads seeking waiting switch failure ended h track f ∙ ap (λ (o : Option Packet). o) is in
-    let same : p.track ≡ track = next_track film.packets track (head film.packets track h) (stand film.packets h).current (p) here in
+    let here : next film.packets h track ≡ Some p =
+    next-is film limits set current others heads seeking waiting switch failure ended h track f ∙ is in
+    let same : p.track ≡ track = next_track film.packets track (head film.packets track h) (stand film.packets h).current p here in
     let chosen : has (selected h) p.track ≡ true =
     is_selected film limits set current others heads seeking waiting switch failure ended h p.track f (subst (λ k. has set k ≡ true) (sym same) sel) in
-    let there : next film.packets h p.track ≡ Some (p) = subst (λ k. next film.packets h k ≡ Some (p)) (sym same) here in
+    let there : next film.packets h p.track ≡ Some p = subst (λ k. next film.packets h k ≡ Some p) (sym same) here in
     let moved : IfSome current (PlacesAre set (with_head set track (past p.pos) heads) (λ j. if p.track == j then rank p.pos + 1 else head film.packets j h)) =
     subst (λ k. IfSome current (PlacesAre set (with_head set track (past p.pos) heads) (λ j. if k == j then rank p.pos + 1 else head film.packets j h))) (sym same)
     (places_one set heads track p.pos (λ j. head film.packets j h) current sel f.places) in
     record {
       film_is = f.film_is;
-      used = (((chosen, there), still, tt), f.used);
+      used = (((chosen, is_told film h p there), still, tt), f.used);
       set_is = f.set_is;
       current_is = f.current_is;
       others_are = tidy film.packets h ∙ f.others_are;

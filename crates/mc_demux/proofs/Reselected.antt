@@ -142,15 +142,15 @@ left_places set next heads place false (Some r) i own e h = kept_places set next
 own_fits : (film : Film) (limits : Limits) (set next : Choice) (c left : CacheState) (heads : Heads) (o : Option Target)
     (waiting : Choice) (switch : Switch) (failure : Option Failure) (ended : Choice) (h : List DemuxRecord) (by : ℕ) (at : ℤ) (drops : List Removal) (added : Choice)
     → Fits film limits set c.current c.others heads o waiting switch failure ended h → is_still film.packets h ≡ true
-    → is_known film.known next ≡ true → added ≡ added_by h next → (is_some o ≡ true → c.current ≡ None)
+    → is_known film.known next ≡ true → added ≡ added_by h next → (next ≡ set → ⊥) → (is_some o ≡ true → c.current ≡ None)
     → IsRetracked next drops c left
     → stand_of left ≡ switched next (stand film.packets h) → IfSome left.current (HoldsFilm film.packets)
     → IfSome left.current (PlacesAre next heads (λ track. head film.packets track h))
     → map due_of drops ≡ due_switch film.packets set next (stand film.packets h)
     → Fits film limits next left.current [] heads o (waiting_after o added) (record { lead = lead_of next; at = at }) None nothing (onto (Switched by next added at ∷ sought_again by next o) h)
     × AreDue film.packets (onto (Switched by next added at ∷ sought_again by next o) h) drops
-own_fits film limits set next c left heads None waiting switch failure ended h by at drops added f still known e none r is held places due_are = (
-  switched_step film limits set next c.current c.others heads waiting switch failure ended h by at added left.current f still known e
+own_fits film limits set next c left heads None waiting switch failure ended h by at drops added f still known e other none r is held places due_are = (
+  switched_step film limits set next c.current c.others heads waiting switch failure ended h by at added left.current f still known e other
       (sym (ap (λ (st : Stand). st.current) is)) held places,
   record {
     begun = refl;
@@ -160,11 +160,11 @@ own_fits film limits set next c left heads None waiting switch failure ended h b
     causes = changed_all next drops c left r;
   },
 )
-own_fits film limits set next c left heads (Some s) waiting switch failure ended h by at drops added f still known e none r is held places due_are =
+own_fits film limits set next c left heads (Some s) waiting switch failure ended h by at drops added f still known e other none r is held places due_are =
     let gone : c.current ≡ None = none refl in
     let no_left : left.current ≡ None = r.current_is ∙ ap (λ (x : Option RangeState). if is_empty next then None else option_map (retracked next) x) gone ∙ no_range (is_empty next) in (
       subst (λ (x : Option RangeState). Fits film limits next x [] heads (Some s) nothing (record { lead = lead_of next; at = at }) None nothing (Sought by next s.t s.dir Sent ∷ Switched by next added at ∷ h))
-          (sym no_left) (resent_step film limits set next c.current c.others heads s waiting switch failure ended h by at added f still known e gone),
+          (sym no_left) (resent_step film limits set next c.current c.others heads s waiting switch failure ended h by at added f still known e other gone),
       record {
         begun = refl;
         alone = refl;
@@ -198,9 +198,9 @@ sought_none : (set : Choice) (heads : Heads) (waiting : Choice) (o : Option Targ
 sought_none set heads waiting None c p e = absurd (cc)
 sought_none set heads waiting (Some s) c p e = p.0
 
-pub switch_keeps : (film : Film) (old new : DemuxState) (by : ℕ) (next : Choice) (at : ℤ) → IsDemux old → is_known (knows old.list) next ≡ true
+pub switch_keeps : (film : Film) (old new : DemuxState) (by : ℕ) (next : Choice) (at : ℤ) → IsDemux old → is_known (knows old.list) next ≡ true → (next ≡ old.set → ⊥)
     → Switches by next at old new → StandsFor film old → StandsFor film new
-switch_keeps film old new by next at i known k s =
+switch_keeps film old new by next at i known other k s =
     let ps = film.packets in
     let h = reverse old.journal in
     let f = s.fits in
@@ -220,7 +220,7 @@ switch_keeps film old new by next at i known k s =
     let due_are : map due_of k.drops ≡ due_switch ps old.set next (stand ps h) =
     retracked_told ps old.set next k.drops old.cache k.left i.cache all kinds r ∙ ap (λ (st : Stand). due_switch ps old.set next st) (sym here) in
     let own = own_fits film old.cache.limits old.set next old.cache k.left old.heads old.seeking old.waiting old.switch old.failure old.ended h by at k.drops added f s.still
-    (known_alike film.known (knows old.list) next s.known known) (added_same h old.set old.waiting next f.set_is f.waits_are)
+    (known_alike film.known (knows old.list) next s.known known) (added_same h old.set old.waiting next f.set_is f.waits_are) other
     (sought_none old.set old.heads old.waiting old.seeking old.cache.current i.placed) r left_is held places due_are in
     let records = own_records by next at old in
     let told = told_drops by k.drops in

@@ -84,13 +84,13 @@ added_same h set waiting next e w =
 pub switched_step : (film : Film) (limits : Limits) (set next : Choice) (current : Option RangeState) (others : List RangeState) (heads : Heads)
     (waiting : Choice) (switch : Switch) (failure : Option Failure) (ended : Choice) (h : List DemuxRecord) (by : ℕ) (at : ℤ) (added : Choice) (current' : Option RangeState)
     → Fits film limits set current others heads None waiting switch failure ended h → is_still film.packets h ≡ true
-    → is_known film.known next ≡ true → added ≡ added_by h next
+    → is_known film.known next ≡ true → added ≡ added_by h next → (next ≡ set → ⊥)
     → (switched next (stand film.packets h)).current ≡ option_map as_range current'
     → IfSome current' (HoldsFilm film.packets) → IfSome current' (PlacesAre next heads (λ track. head film.packets track h))
     → Fits film limits next current' [] heads None added (record { lead = lead_of next; at = at }) None nothing (Switched by next added at ∷ h)
-switched_step film limits set next current others heads waiting switch failure ended h by at added current' f still known e is held places = record {
+switched_step film limits set next current others heads waiting switch failure ended h by at added current' f still known e other is held places = record {
   film_is = f.film_is;
-  used = (((known, e), still, tt), f.used);
+  used = (((known, e, λ same. other (same ∙ f.set_is)), still, tt), f.used);
   set_is = refl;
   current_is = is;
   others_are = refl;
@@ -123,9 +123,9 @@ none_left ps next f b o e = rw e (by b)
 pub resent_step : (film : Film) (limits : Limits) (set next : Choice) (current : Option RangeState) (others : List RangeState) (heads : Heads) (s : Target)
     (waiting : Choice) (switch : Switch) (failure : Option Failure) (ended : Choice) (h : List DemuxRecord) (by : ℕ) (at : ℤ) (added : Choice)
     → Fits film limits set current others heads (Some s) waiting switch failure ended h → is_still film.packets h ≡ true
-    → is_known film.known next ≡ true → added ≡ added_by h next → current ≡ None
+    → is_known film.known next ≡ true → added ≡ added_by h next → (next ≡ set → ⊥) → current ≡ None
     → Fits film limits next None [] heads (Some s) nothing (record { lead = lead_of next; at = at }) None nothing (Sought by next s.t s.dir Sent ∷ Switched by next added at ∷ h)
-resent_step film limits set next current others heads s waiting switch failure ended h by at added f still known e none =
+resent_step film limits set next current others heads s waiting switch failure ended h by at added f still known e other none =
     let late : pending h ≡ true = f.seeks in
     let gone : (stand film.packets h).current ≡ None = f.current_is ∙ ap (λ (o : Option RangeState). option_map as_range o) none in
     let again : MatchBool (pending h) ((Sent ≡ Sent) × (target h ≡ Some s.t) × (s.dir ≡ direction h) × (switcher (Switched by next added at ∷ h) ≡ Some by))
@@ -135,7 +135,7 @@ resent_step film limits set next current others heads s waiting switch failure e
     (refl, f.target_is.0, sym f.target_is.1, refl) in
     record {
       film_is = f.film_is;
-      used = (((refl, again), or_left (pending h) _ late, tt), (((known, e), still, tt), f.used));
+      used = (((refl, again), or_left (pending h) _ late, tt), (((known, e, λ same. other (same ∙ f.set_is)), still, tt), f.used));
       set_is = refl;
       current_is = refl;
       others_are = none_left film.packets next _ (is_empty next) (stand film.packets h).current gone;

@@ -53,7 +53,7 @@ returns-clause-film c = λ film s.
     let known : is_known (knows c.args.self.now.list) c.choice_of-chosen.result ≡ true =
     subst (λ (x : DemuxState). is_known (knows x.list) c.choice_of-chosen.result ≡ true) c.self.view_is
     (subst (λ (x : Choice). is_known (knows c.self.inside.list) x ≡ true) (sym c.choice_of-chosen.ensures) accepted) in
-    switch_keeps film c.args.self.now c.switch.new.self c.args.by c.choice_of-chosen.result (to_z w64 (of_z w64 c.args.at)) d known
+    switch_keeps film c.args.self.now c.switch.new.self c.args.by c.choice_of-chosen.result (to_z w64 (of_z w64 c.args.at)) d known (λ e. differ c.choice_of-chosen.result c.self.inside.set c.if-eq.ensures (e ∙ sym (ap (λ (x : DemuxState). x.set) c.self.view_is)))
     (roomy_switches c.args.self.now c.make_room_to_change.new.self c.switch.new.self c.args.by c.choice_of-chosen.result (to_z w64 (of_z w64 c.args.at)) c.in_ok-make_room_to_change.ensures.same
     c.in_ok-switch.ensures.ok) s
 

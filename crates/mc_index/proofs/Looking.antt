@@ -20,7 +20,7 @@ use Rattle.mc_index.specs.declared.search.Found.{Found}
 use Rattle.mc_index.specs.declared.search.Found.TheVariants as found
 use Rattle.mc_index.specs.Answers.{IsAround}
 use Rattle.mc_index.specs.Entries.{is_upto, track_point}
-use Rattle.mc_index.specs.Fronts.{Front, told_all, film_points, any_past}
+use Rattle.mc_index.specs.Fronts.{Front, film_points, any_past}
 use Rattle.mc_index.specs.Fronts.Front.{read_on}
 use Rattle.mc_index.specs.Scans.{IsPlan, point_of, last_point}
 use Rattle.mc_index.specs.Searches.{IsSince, found_point, unless_ended, found_by, NearReads}
@@ -106,9 +106,9 @@ since-upto plan track t s p is since tells = since-on plan track t s (Some p) (S
 -- ---- the answer
 
 film-points : (plan : Plan) (n : ℕ) (m : Mark) (ps : List Packet) (track : ℕ) → IsPlan plan → Front plan n m ps
-    → film_points plan track ≡ syncs track (told_all ps) ++ syncs track (told_all (rest_from plan m).0)
+    → film_points plan track ≡ syncs track ps ++ syncs track ((rest_from plan m).0)
 film-points plan n m ps track is front =
-    ap (λ (r : Rest). syncs track (told_all r.0)) (front-whole plan n m ps is front) ∙ syncs-append track ps (rest_from plan m).0
+    ap (λ (r : Rest). syncs track r.0) (front-whole plan n m ps is front) ∙ syncs-append track ps (rest_from plan m).0
 
 first-append : (xs ys : List Packet) → first (xs ++ ys) ≡ or_else (first xs) (first ys)
 first-append [] ys = refl
@@ -131,9 +131,9 @@ pub around-past : (plan : Plan) (track : ℕ) (t : ℤ) (s : Since) (p : Point) 
 around-past plan track t s p is since tells =
     let qs = (part_at plan s.mark).packets in
     let to = (part_at plan s.mark).to in
-    let seen = syncs track (told_all since.packets) in
-    let next = syncs track (told_all qs) in
-    let rest = syncs track (told_all (rest_from plan to).0) in
+    let seen = syncs track since.packets in
+    let next = syncs track qs in
+    let rest = syncs track ((rest_from plan to).0) in
     let on : Front plan (since.blocks + 1) to (since.packets ++ qs) = read_on since.blocks s.mark since.packets since.read tells.goes in
     let synced = (part-at plan since.blocks s.mark since.packets is since.read).synced in
     let one : last next ≡ first next = ap last (syncs-shown track qs synced) ∙ shown-one track qs ∙ ap first (sym (syncs-shown track qs synced)) in
@@ -154,11 +154,11 @@ around-past plan track t s p is since tells =
 pub around-ended : (plan : Plan) (track : ℕ) (t : ℤ) (s : Since) (ending : Ending) → IsPlan plan → IsSince plan track t s → (part_at plan s.mark).ending ≡ Some ending
     → IsAround plan track t (record { before = s.before; after = None })
 around-ended plan track t s ending is since ends =
-    let seen = syncs track (told_all since.packets) in
+    let seen = syncs track since.packets in
     record {
       earlier = seen;
       later = [];
-      whole = ap (λ ps. syncs track (told_all ps)) (front-ended plan since.blocks s.mark since.packets ending is since.read ends) ∙ syncs-append track since.packets [];
+      whole = ap (λ ps. syncs track ps) (front-ended plan since.blocks s.mark since.packets ending is since.read ends) ∙ syncs-append track since.packets [];
       before = since.before;
       upto = upto-point plan t (last seen) s.before since.before since.upto;
       after = refl;
@@ -168,15 +168,15 @@ around-ended plan track t s ending is since ends =
 -- ---- how far is read
 
 abbrev points_of : ℕ → List Packet → List Packet
-points_of track ps = syncs track (told_all ps)
+points_of track ps = syncs track ps
 
 -- what was read up to a mark shows no later sync point
 none-shown : (plan : Plan) (track : ℕ) (t : ℤ) (s : Since) → IsPlan plan → (since : IsSince plan track t s) → TimesRise (film_points plan track)
-    → any_past t (syncs track (told_all since.packets)) ≡ false
+    → any_past t (syncs track since.packets) ≡ false
 none-shown plan track t s is since rise =
-    let seen = syncs track (told_all since.packets) in
+    let seen = syncs track since.packets in
     let whole = film-points plan since.blocks s.mark since.packets track is since.read in
-    none-past t seen (rise-front seen (syncs track (told_all (rest_from plan s.mark).0)) (subst TimesRise whole rise)) (upto-point plan t (last seen) s.before since.before since.upto)
+    none-past t seen (rise-front seen (syncs track ((rest_from plan s.mark).0)) (subst TimesRise whole rise)) (upto-point plan t (last seen) s.before since.before since.upto)
 
 front-shown : (track : ℕ) (t : ℤ) (ps rest whole : List Packet) → whole ≡ ps ++ rest → any_past t (points_of track ps) ≡ true → any_past t (points_of track whole) ≡ true
 front-shown track t ps rest whole e past = rw (e, syncs-append track ps rest) (past-front t (points_of track ps) (points_of track rest) past)

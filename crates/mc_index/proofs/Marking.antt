@@ -8,7 +8,8 @@ use Rattle.mc_walk.specs.declared.plan.Plan.{Plan}
 use Rattle.mc_walk.specs.Walk.{steps}
 use Rattle.mc_walk.specs.Parts.{mark, opening_mark, part_at, place_of}
 use Rattle.mc_walk.proofs.Joining.{place-of}
-use Rattle.mc_index.specs.Fronts.{Front, stands_first, level_from, mark_at}
+use Rattle.mc_index.specs.Fronts.{Front}
+use Rattle.mc_filmed.specs.Marks.{stands_first, level_from, mark_at}
 use Rattle.mc_index.specs.Fronts.Front.{at_opening, read_on}
 use Rattle.mc_index.specs.Scans.{IsPlan}
 use Rattle.mc_index.proofs.Fronts.{StartsIn, front-lies, front-count, part-at, part-onward, mark-under, front-opens}

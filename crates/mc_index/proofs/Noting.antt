@@ -1,6 +1,5 @@
 -- What a head tells of each track, and what is known of it once that is noted.
 use Rattle.std.proofs.Common.{◌≡◌, ℕ, ◌+◌, Bool, true, false, List, [], ◌∷◌, ◌++◌, map, Option, Some, None, refl, sym, ap, subst, ◌∙◌}
-use Rattle.std.proofs.lemmas.List.{map-append}
 use Rattle.std.proofs.lemmas.List.Elements.{filter-append}
 use Rattle.std.specs.Prelude.{◌==◌, ◌&&◌, if◌then◌else◌}
 use Rattle.std.specs.Option.{option_map}
@@ -18,7 +17,8 @@ use Rattle.mc_index.specs.declared.entry.Point.{Point}
 use Rattle.mc_index.specs.declared.entry.LastSync.{LastSync}
 use Rattle.mc_index.specs.declared.entry.Entry.{Entry}
 use Rattle.mc_index.specs.Entries.{noted, key_of, key_point, track_point, noted_by}
-use Rattle.mc_index.specs.Fronts.{Front, told_all, leads_of, mark_at}
+use Rattle.mc_index.specs.Fronts.{Front, leads_of}
+use Rattle.mc_filmed.specs.Marks.{mark_at}
 use Rattle.mc_index.specs.Fronts.Front.{read_on}
 use Rattle.mc_index.specs.Scans.{IsPlan, point_of, last_point, last_sync, IsEntry}
 use Rattle.mc_index.proofs.Syncing.{AreSynced, AreLater}
@@ -27,14 +27,14 @@ use Rattle.mc_index.proofs.Marking.{mark-first}
 
 -- ---- the sync points of a block element
 
-pub syncs-append : (track : ℕ) (ps qs : List Packet) → syncs track (told_all (ps ++ qs)) ≡ syncs track (told_all ps) ++ syncs track (told_all qs)
-syncs-append track ps qs = ap (syncs track) (map-append ps qs) ∙ filter-append (λ (p : Packet). p.track == track && p.sync) (told_all ps) (told_all qs)
+pub syncs-append : (track : ℕ) (ps qs : List Packet) → syncs track (ps ++ qs) ≡ syncs track ps ++ syncs track qs
+syncs-append track ps qs = filter-append (λ (p : Packet). p.track == track && p.sync) ps qs
 
 and-false : (b : Bool) → (b && false) ≡ false
 and-false true = refl
 and-false false = refl
 
-later-none : (track : ℕ) (ps : List Packet) → AreLater ps → syncs track (told_all ps) ≡ []
+later-none : (track : ℕ) (ps : List Packet) → AreLater ps → syncs track ps ≡ []
 later-none track [] later = refl
 later-none track (p ∷ ps) later = rw (later.0, and-false (p.track == track)) (later-none track ps later.1)
 
@@ -43,7 +43,7 @@ abbrev pub shown : ℕ → List Packet → List Packet
 shown track [] = []
 shown track (p ∷ ps) = if p.track == track && p.key then p ∷ [] else []
 
-pub syncs-shown : (track : ℕ) (ps : List Packet) → AreSynced ps → syncs track (told_all ps) ≡ shown track ps
+pub syncs-shown : (track : ℕ) (ps : List Packet) → AreSynced ps → syncs track ps ≡ shown track ps
 syncs-shown track [] synced = refl
 syncs-shown track (p ∷ ps) synced = rw (synced.0, later-none track ps synced.1) refl
 
@@ -92,8 +92,8 @@ pub point-on : (plan : Plan) (n : ℕ) (m : Mark) (ps : List Packet) (track : �
 point-on plan n m ps track is front =
     let qs = (part_at plan m).packets in
     ap (λ ts. option_map (point_of plan) (last ts)) (syncs-append track ps qs)
-    ∙ ap (option_map (point_of plan)) (last-append (syncs track (told_all ps)) (syncs track (told_all qs)))
-    ∙ map-or_else (point_of plan) (last (syncs track (told_all qs))) (last (syncs track (told_all ps)))
+    ∙ ap (option_map (point_of plan)) (last-append (syncs track ps) (syncs track qs))
+    ∙ map-or_else (point_of plan) (last (syncs track qs)) (last (syncs track ps))
     ∙ ap (λ o. or_else o (last_point plan ps track)) (sym (point-is plan n m ps track is front))
 
 -- ---- an entry, read on by a head

@@ -20,22 +20,24 @@ use Rattle.mc_journal.specs.Used.{least_start, place_of_starts}
 use Rattle.mc_index.specs.declared.entry.Point.{Point}
 use Rattle.mc_index.specs.declared.search.Around.{Around}
 use Rattle.mc_index.specs.Answers.{IsAround, IsStart, AreOfBlocks, AreFor}
-use Rattle.mc_index.specs.Fronts.{told_all, film_told, film_points, mark_at}
+use Rattle.mc_index.specs.Fronts.{film_points}
+use Rattle.mc_filmed.specs.Films.{packets_of}
+use Rattle.mc_filmed.specs.Marks.{mark_at}
 use Rattle.mc_index.specs.Scans.{point_of}
 use Rattle.mc_index.specs.Searches.{IsNear, chosen, is_at, track_mark, least_mark, mark_or_opening, start_by, starts_by, sub_mark, seek_starts, switch_starts}
 use Rattle.mc_index.proofs.Marking.{mark-pos}
 
 -- ---- the film's packets
 
-abbrev IsToldOf : List Packet → Packet → Type 0
-IsToldOf film p = (q : Packet) × Contains film q × (p ≡ q)
+abbrev IsOf : List Packet → Packet → Type 0
+IsOf film p = (q : Packet) × Contains film q × (p ≡ q)
 
 contains-first : (q : Packet) (qs : List Packet) → Contains (q ∷ qs) q
 contains-first q qs = Contains-append_left (q ∷ []) qs q (Contains-push [] q)
 
-all-told : (film ps : List Packet) → ((q : Packet) → Contains ps q → Contains film q) → AllByRecursion (IsToldOf film) (told_all ps)
-all-film [] on = tt
-all-film (q ∷ qs) on = ((q, on q (contains-first q qs), refl), all-film qs (λ r h. on r (Contains-append_right (q ∷ []) qs r h)))
+all-film : (film ps : List Packet) → ((q : Packet) → Contains ps q → Contains film q) → AllByRecursion (IsOf film) ps
+all-film film [] on = tt
+all-film film (q ∷ qs) on = ((q, on q (contains-first q qs), refl), all-film film qs (λ r h. on r (Contains-append_right (q ∷ []) qs r h)))
 
 all-kept : (P : Packet → Type 0) (test : Packet → Bool) (xs : List Packet) → AllByRecursion P xs → AllByRecursion P (filter test xs)
 all-kept P test [] h = tt
@@ -75,29 +77,29 @@ opening-placed plan = record { start = inl refl; mark = refl }
 abbrev pub IsKnown : Plan → Option Point → Type 0
 IsKnown plan p = IfSome p (λ x. IsPlaced plan x.mark)
 
-told-placed : (plan : Plan) (p : Packet) → IsToldOf (film_walk plan).0 p → IsPlaced plan (mark_at plan p.pos.block)
-told-placed plan p of =
+film-placed : (plan : Plan) (p : Packet) → IsOf (film_walk plan).0 p → IsPlaced plan (mark_at plan p.pos.block)
+film-placed plan p of =
     let at = mark-pos plan p.pos.block in
     let block : of.0.pos.block ≡ (mark_at plan p.pos.block).pos = ap (λ (x : Packet). x.pos.block) (sym of.2) ∙ sym at in
     record { start = inr (of.0, of.1, block); mark = ap (mark_at plan) (sym at) }
 
-known-by : (plan : Plan) (o : Option Packet) (p : Option Point) → p ≡ option_map (point_of plan) o → IfSome o (IsToldOf (film_walk plan).0) → IsKnown plan p
+known-by : (plan : Plan) (o : Option Packet) (p : Option Point) → p ≡ option_map (point_of plan) o → IfSome o (IsOf (film_walk plan).0) → IsKnown plan p
 known-by plan None p e of = subst (IsKnown plan) (sym e) tt
-known-by plan (Some q) p e of = subst (IsKnown plan) (sym e) (told-placed plan q of)
+known-by plan (Some q) p e of = subst (IsKnown plan) (sym e) (film-placed plan q of)
 
-points-told : (plan : Plan) (track : ℕ) → AllByRecursion (IsToldOf (film_walk plan).0) (film_points plan track)
-points-plan track = all-kept (IsToldOf (film_walk plan).0) (λ p. p.track == track && p.sync) (film_told plan) (all-(film_walk plan).0 (film_walk plan).0 (λ q h. h))
+points-plan : (plan : Plan) (track : ℕ) → AllByRecursion (IsOf (film_walk plan).0) (film_points plan track)
+points-plan plan track = all-kept (IsOf (film_walk plan).0) (λ p. p.track == track && p.sync) (packets_of plan) (all-film (film_walk plan).0 (film_walk plan).0 (λ q h. h))
 
 pub before-known : (plan : Plan) (track : ℕ) (t : ℤ) (a : Around) → IsAround plan track t a → IsKnown plan a.before
 before-known plan track t a around =
-    let P = IsToldOf (film_walk plan).0 in
-    let all = subst (AllByRecursion P) around.whole (points-plan track) in
+    let P = IsOf (film_walk plan).0 in
+    let all = subst (AllByRecursion P) around.whole (points-plan plan track) in
     known-by plan (last around.earlier) a.before around.before (last-all P around.earlier (all-front P around.earlier around.later all))
 
 pub after-known : (plan : Plan) (track : ℕ) (t : ℤ) (a : Around) → IsAround plan track t a → IsKnown plan a.after
 after-known plan track t a around =
-    let P = IsToldOf (film_walk plan).0 in
-    let all = subst (AllByRecursion P) around.whole (points-plan track) in
+    let P = IsOf (film_walk plan).0 in
+    let all = subst (AllByRecursion P) around.whole (points-plan plan track) in
     known-by plan (first around.later) a.after around.after (first-all P around.later (all-back P around.earlier around.later all))
 
 or_else-known : (plan : Plan) (p q : Option Point) → IsKnown plan p → IsKnown plan q → IsKnown plan (or_else p q)

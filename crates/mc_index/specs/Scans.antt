@@ -5,14 +5,15 @@ use Rattle.mc_packet.specs.declared.packet.Packet.{Packet}
 use Rattle.mc_outside.specs.Shelf.{Files, Opened, content_of}
 use Rattle.mc_walk.specs.declared.plan.Plan.{Plan}
 use Rattle.mc_cursor.specs.declared.cursor.Cursor.{Cursor}
-use Rattle.mc_cursor.specs.Reads.{Packet as IfTold}
+use Rattle.mc_cursor.specs.Reads.{Told as IfTold}
 use Rattle.mc_cursor.specs.Standing.{plan_for, file_of, StandsFor}
 use Rattle.mc_journal.specs.Films.{last, syncs}
 use Rattle.mc_index.specs.declared.entry.Point.{Point}
 use Rattle.mc_index.specs.declared.entry.LastSync.{LastSync}
 use Rattle.mc_index.specs.declared.entry.Entry.{Entry}
 use Rattle.mc_index.specs.declared.index.Index.{Index}
-use Rattle.mc_index.specs.Fronts.{Front, told_all, leads_of, mark_at}
+use Rattle.mc_index.specs.Fronts.{Front, leads_of}
+use Rattle.mc_filmed.specs.Marks.{mark_at}
 
 -- a film whose Segment was found within it
 abbrev pub IsPlan : Plan → Type 0
@@ -24,7 +25,7 @@ point_of plan p = record { time = p.time; mark = mark_at plan p.pos.block }
 
 -- the last sync point of a track among packets
 abbrev pub last_point : Plan → List Packet → ℕ → Option Point
-last_point plan packets track = option_map (point_of plan) (last (syncs track (told_all packets)))
+last_point plan packets track = option_map (point_of plan) (last (syncs track packets))
 
 abbrev pub last_sync : Plan → List Packet → ℕ → LastSync
 last_sync plan packets track = record { track = track; point = last_point plan packets track }

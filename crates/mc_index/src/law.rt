@@ -4,7 +4,8 @@ ghost use Rattle.mc_packet.specs.declared.packet.Packet.{Packet};
 ghost use Rattle.mc_packet.specs.declared.walk.Mark.{Mark};
 ghost use Rattle.mc_walk.specs.declared.plan.Plan.{Plan};
 ghost use Rattle.mc_walk.specs.Parts.{part_at, IsMark};
-ghost use Rattle.mc_index.specs.Fronts.{Front, mark_at};
+ghost use Rattle.mc_index.specs.Fronts.{Front};
+ghost use Rattle.mc_filmed.specs.Marks.{mark_at};
 ghost use Rattle.mc_index.specs.Scans.{IsPlan};
 
 /// The mark at a place stands there. Where a part of the film, as it is read from its opening on,

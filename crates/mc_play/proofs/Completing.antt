@@ -25,7 +25,7 @@ use Rattle.mc_script.specs.declared.exit.Exit.TheVariants as exits
 use Rattle.mc_script.specs.declared.exit.ShelfCause.{ShelfCause}
 use Rattle.mc_script.specs.declared.exit.ShelfCause.TheVariants as causes
 use Rattle.mc_script.specs.declared.options.RunLine.{RunLine}
-use Rattle.mc_world.specs.Filmed.{film_for}
+use Rattle.mc_filmed.specs.Films.{film_for}
 use Rattle.mc_script.specs.Plays.{Leaves, Played, taken_after}
 use Rattle.mc_journal.specs.Drives.{Readings, selection, still_left, tells_reader}
 use Rattle.mc_journal.specs.Callers.{reader}

@@ -34,8 +34,8 @@ use Rattle.mc_lines.specs.Lines.{Grows}
 use Rattle.mc_lines.specs.Runs.{Runs}
 use Rattle.mc_world.specs.declared.driver.Driver.{Driver}
 use Rattle.mc_world.specs.Driving.{Drives}
-use Rattle.mc_world.specs.Filmed.{film_for}
-use Rattle.mc_world.specs.Machines.{Stands, choice_for, fixed_of}
+use Rattle.mc_filmed.specs.Films.{film_for, choice_for}
+use Rattle.mc_world.specs.Machines.{Stands, fixed_of}
 use Rattle.mc_world.proofs.Opened.{begins-together, has-tracks}
 use Rattle.mc_world.proofs.Ruling.{stands_for}
 use Rattle.mc_play.specs.Asked.{name_at}

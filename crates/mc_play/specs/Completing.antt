@@ -11,8 +11,7 @@ use Rattle.mc_walk.specs.declared.plan.Plan.{Plan}
 use Rattle.mc_walk.specs.Opening.{opened_film}
 use Rattle.mc_journal.specs.declared.record.DemuxRecord.{DemuxRecord}
 use Rattle.mc_journal.specs.declared.record.DemuxRecord.TheVariants.{Opened, Ended}
-use Rattle.mc_world.specs.Filmed.{film_for}
-use Rattle.mc_world.specs.Machines.{choice_for}
+use Rattle.mc_filmed.specs.Films.{film_for, choice_for}
 use Rattle.mc_script.specs.declared.acts.Act.{Act}
 use Rattle.mc_script.specs.declared.acts.Act.TheVariants as acts
 use Rattle.mc_script.specs.declared.exit.Exit.{Exit}

@@ -41,7 +41,8 @@ use Rattle.mc_demux.specs.Shows.{goal_of, is_finish, is_idle_job}
 use Rattle.mc_demux.specs.State.{DemuxState, end_in, first_at, forward_of, head_of, next_in}
 use Rattle.mc_demux.specs.Viewing.{Shows as DemuxShows}
 use Rattle.mc_lines.specs.Calls.{Fails, Peeks, Reads, Seeks, Selects, Shows, Takes, number_of, switch_records}
-use Rattle.mc_world.specs.Machines.{ahead_of, jobs_of, place_of, refused_or, would_tell}
+use Rattle.mc_world.specs.Machines.{ahead_of, jobs_of, place_of, would_tell}
+use Rattle.mc_filmed.specs.Films.{refused_or}
 
 -- ---- records
 

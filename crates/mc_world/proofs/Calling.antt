@@ -12,7 +12,7 @@ use Rattle.mc_journal.specs.Films.{is_listed}
 use Rattle.mc_cursor.specs.declared.cursor.Cursor.{Cursor}
 use Rattle.mc_cursor.specs.Standing.{plan_for}
 use Rattle.mc_index.specs.declared.index.Index.{Index}
-use Rattle.mc_index.specs.Fronts.{known_in}
+use Rattle.mc_tracks.specs.Selection.{knows}
 use Rattle.mc_range.specs.Range.{RangeState}
 use Rattle.mc_cache.specs.Cache.{CacheState, in_front, ranges_of}
 use Rattle.mc_cache.specs.Changing.{IsSameButRoom, RoomierIn}
@@ -36,7 +36,7 @@ use Rattle.mc_demux.specs.Selecting.{Selects}
 use Rattle.mc_demux.specs.State.{DemuxState}
 use Rattle.mc_demux.specs.Viewing.{Shows}
 use Rattle.mc_world.specs.Driving.{StandTogether}
-use Rattle.mc_world.specs.Filmed.{film_for}
+use Rattle.mc_filmed.specs.Films.{film_for}
 use Rattle.mc_world.proofs.Chosen.{lead-listed}
 use Rattle.mc_world.proofs.Standing.{among-kept, own-marks, set-known}
 
@@ -74,7 +74,7 @@ same-stands octets old new c x s film among switch =
       cursor_is = s.cursor_is;
       index_is = s.index_is;
       marks = among-kept (IsMark (plan_for octets c)) old new s.marks among;
-      lead = subst (λ (w : Switch). passes w.lead (is_listed (known_in c.tracks)) ≡ true) (sym switch) s.lead;
+      lead = subst (λ (w : Switch). passes w.lead (is_listed (knows c.tracks)) ≡ true) (sym switch) s.lead;
     }
 
 pub seek-stands : (octets : List ℕ) (old new : DemuxState) (c : Cursor) (x : Index) (by : ℕ) (t : ℤ) (dir : Dir) (result : Result How DemuxError) → StandTogether octets old c x
@@ -145,17 +145,17 @@ ask-stands octets old new c x result s film h = same-stands octets old new c x s
 -- ---- a selection
 
 abbrev LeadsIn : Cursor → DemuxState → Type 0
-LeadsIn c d = passes d.switch.lead (is_listed (known_in c.tracks)) ≡ true
+LeadsIn c d = passes d.switch.lead (is_listed (knows c.tracks)) ≡ true
 
 leads-same : (c : Cursor) (old new : DemuxState) → new.switch ≡ old.switch → LeadsIn c old → LeadsIn c new
-leads-same c old new e h = subst (λ (w : Switch). passes w.lead (is_listed (known_in c.tracks)) ≡ true) (sym e) h
+leads-same c old new e h = subst (λ (w : Switch). passes w.lead (is_listed (knows c.tracks)) ≡ true) (sym e) h
 
 select-leads : (octets : List ℕ) (old new : DemuxState) (c : Cursor) (by : ℕ) (numbers : List ℕ) (at : ℤ) (result : Result Selected DemuxError) → LeadsIn c old
     → StandsFor (film_for (plan_for octets c)) new → Selects by numbers at old result new → LeadsIn c new
 select-leads octets old new c by numbers at (Ok Same) s film h = leads-same c old new (ap (λ (d : DemuxState). d.switch) h.3) s
 select-leads octets old new c by numbers at (Ok Changed) s film h =
     let e : new.switch.lead ≡ lead_of new.set = ap (λ (d : DemuxState). d.switch.lead) h.3.changed ∙ sym (ap (λ (d : DemuxState). lead_of d.set) h.3.changed) in
-    subst (λ lead. passes lead (is_listed (known_in c.tracks)) ≡ true) (sym e) (lead-listed (known_in c.tracks) new.set (set-known (plan_for octets c) new film))
+    subst (λ lead. passes lead (is_listed (knows c.tracks)) ≡ true) (sym e) (lead-listed (knows c.tracks) new.set (set-known (plan_for octets c) new film))
 select-leads octets old new c by numbers at (Err (Refused why)) s film h = leads-same c old new (ap (λ (d : DemuxState). d.switch) h.2.changed) s
 select-leads octets old new c by numbers at (Err JournalFull) s film h = leads-same c old new (ap (λ (d : DemuxState). d.switch) h.1) s
 select-leads octets old new c by numbers at (Err NoMemory) s film h = leads-same c old new (ap (λ (d : DemuxState). d.switch) h.1.changed) s

@@ -20,8 +20,7 @@ use Rattle.mc_block.specs.declared.parts.BlockHead.{BlockHead}
 use Rattle.mc_block.specs.declared.parts.Place.{Place}
 use Rattle.mc_block.specs.Frames.{Front, ◌then◌, size_in_front, next_size, coded_sizes, fixed_sizes, lace_sizes, spans, fitted, laced, lacing_of, has_lace, is_laced, frames_in, frames_of}
 use Rattle.mc_block.specs.Group.{children_of, first_block}
-use Rattle.mc_block.specs.Block.{head_of, is_large, simple_body_of, block_in, block_among, group_body_of, frame_time, in_range, is_key, packets_from, packets_of, track_of}
-use Rattle.mc_block.specs.Block.{◌>>=◌ as ◌and_then◌}
+use Rattle.mc_block.specs.Block.{head_of, is_large, simple_body_of, block_in, block_among, group_body_of, frame_time, in_range, is_key, packets_from, packets_of, track_of, ◌>>=◌ as ◌and_then◌}
 use Rattle.mc_block.proofs.Laces.{single_frame}
 use Rattle.mc_tracks.specs.declared.track.Track.{Track}
 use Rattle.mc_walk.specs.declared.plan.Plan.{Plan}
@@ -38,7 +37,7 @@ use Rattle.mc_walk.proofs.Framing.{are-its-frames}
 use Rattle.mc_outside.specs.Shelf.{AreBytes}
 use Rattle.mc_journal.specs.Told.{told}
 use Rattle.mc_journal.specs.Films.{IsFilm, IsRising, HasLanes, at, rank}
-use Rattle.mc_index.specs.Fronts.{film_told, told_all}
+use Rattle.mc_filmed.specs.Films.{packets_of}
 use Rattle.mc_index.specs.Scans.{IsPlan}
 
 -- ---- octets
@@ -273,7 +272,7 @@ walk-laned (suc n) plan place level all =
 
 -- ---- the list
 
-told-laned : (ps : List Packet) → AreLaned ps → AllByRecursion HasLanes (told_all ps)
+told-laned : (ps : List Packet) → AreLaned ps → AllByRecursion HasLanes ps
 told-laned [] laned = tt
 told-laned (p ∷ ps) laned = (laned.0, told-laned ps laned.1)
 
@@ -282,16 +281,16 @@ unfolding rank
 rank-below p q small (inl less) = omega arith
 rank-below p q small (inr same) = let block = same.0 in let lane = same.1 in omega (arith, block, lane)
 
-all-below : (p : Packet) (ps : List Packet) → p.pos.lane < 65536 → AllByRecursion (StandsBefore p) ps → AllByRecursion (λ q. at (told p) < at q) (told_all ps)
+all-below : (p : Packet) (ps : List Packet) → p.pos.lane < 65536 → AllByRecursion (StandsBefore p) ps → AllByRecursion (λ q. at (told p) < at q) ps
 all-below p [] small before = tt
 all-below p (q ∷ qs) small before = (rank-below p q small before.0, all-below p qs small before.1)
 
-told-rising : (ps : List Packet) → InOrder ps → AreLaned ps → IsRising (told_all ps)
+told-rising : (ps : List Packet) → InOrder ps → AreLaned ps → IsRising ps
 told-rising [] order laned = tt
 told-rising (p ∷ ps) order laned = (all-below p ps laned.0.0 order.0, told-rising ps order.1 laned.1)
 
 -- what stands in a file is a film's list
-pub is-film : (plan : Plan) → IsPlan plan → AreBytes plan.octets → IsFilm (film_told plan)
+pub is-film : (plan : Plan) → IsPlan plan → AreBytes plan.octets → IsFilm (packets_of plan)
 is-film plan is all =
     let laned = walk-laned (steps plan) plan plan.opening levels.Segment all in
     record {

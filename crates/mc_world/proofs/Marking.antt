@@ -22,7 +22,8 @@ use Rattle.mc_walk.proofs.Lanes.{all-weaker, IsFrom}
 use Rattle.mc_walk.proofs.Marks.{block-marked}
 use Rattle.mc_journal.specs.Used.{least_start, place_of_starts}
 use Rattle.mc_index.specs.Answers.{IsStart, AreOfBlocks}
-use Rattle.mc_index.specs.Fronts.{Front, mark_at}
+use Rattle.mc_index.specs.Fronts.{Front}
+use Rattle.mc_filmed.specs.Marks.{mark_at}
 use Rattle.mc_index.specs.Fronts.Front.{at_opening as opening_read, read_on}
 use Rattle.mc_index.specs.Scans.{IsPlan}
 use Rattle.mc_index.proofs.Fronts.{front-mark}

@@ -24,7 +24,8 @@ use Rattle.mc_journal.specs.Films.{is_listed}
 use Rattle.mc_cursor.specs.declared.cursor.Cursor.{Cursor}
 use Rattle.mc_cursor.specs.Standing.{StandsFor as CursorStandsFor, plan_for}
 use Rattle.mc_index.specs.declared.index.Index.{Index}
-use Rattle.mc_index.specs.Fronts.{is_readable_as, known_in}
+use Rattle.mc_index.specs.Fronts.{is_readable_as}
+use Rattle.mc_tracks.specs.Selection.{knows}
 use Rattle.mc_index.specs.Scans.{IsIndexOf, IsPlan}
 use Rattle.mc_range.specs.Range.{RangeState, IsBegun}
 use Rattle.mc_cache.specs.Cache.{in_front}
@@ -32,7 +33,7 @@ use Rattle.mc_demux.specs.State.{DemuxState}
 use Rattle.mc_demux.specs.Film.{StandsFor}
 use Rattle.mc_demux.specs.Opening.{HasTracks, IsOpened, first_starts}
 use Rattle.mc_demux.specs.Selecting.{is_listed_as, is_coded, knows}
-use Rattle.mc_world.specs.Filmed.{film_for}
+use Rattle.mc_filmed.specs.Films.{film_for}
 use Rattle.mc_world.specs.Driving.{StandTogether}
 use Rattle.mc_world.proofs.Listing.{is-film}
 
@@ -175,5 +176,5 @@ begins-together octets list set limits c x d cursor index opened film =
       cursor_is = cursor;
       index_is = index;
       marks = opening-marks plan set d.cache.current d.cache.others opened.current opened.no_others;
-      lead = subst (λ lead. passes lead (is_listed (known_in plan.tracks)) ≡ true) (sym (ap (λ (d : DemuxState). d.switch.lead) opened.changed)) refl;
+      lead = subst (λ lead. passes lead (is_listed (knows plan.tracks)) ≡ true) (sym (ap (λ (d : DemuxState). d.switch.lead) opened.changed)) refl;
     }

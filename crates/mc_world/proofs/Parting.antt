@@ -20,11 +20,10 @@ use Rattle.mc_journal.specs.Told.{Told, told}
 use Rattle.mc_journal.specs.Films.{IsFilm, HasLanes, at, rank, first_lane}
 use Rattle.mc_journal.specs.Ranges.{within}
 use Rattle.mc_journal.proofs.Within.{in_below, within-past, within-whole}
-use Rattle.mc_index.specs.Fronts.{film_told, told_all}
+use Rattle.mc_filmed.specs.Films.{packets_of, film_for}
 use Rattle.mc_index.specs.Scans.{IsPlan}
 use Rattle.mc_index.proofs.Fronts.{mark-under}
 use Rattle.mc_demux.specs.Film.{IsPartOf}
-use Rattle.mc_world.specs.Filmed.{film_for}
 use Rattle.mc_world.proofs.Lying.{IsBehind, IsBefore, all-append, behind-earlier, before-later, walk-behind, part-lies, from_end, walk-parts, in_front-append, Falls, comes-falls}
 
 -- ---- what stands before a mark
@@ -82,11 +81,11 @@ lanes-back : (xs ys : List Told) → AllByRecursion HasLanes (xs ++ ys) → AllB
 lanes-back [] ys h = h
 lanes-back (x ∷ xs) ys h = lanes-back xs ys h.1
 
-told-low : (from : ℕ) (ps : List Packet) → AllByRecursion HasLanes (told_all ps) → AllByRecursion (IsBefore from) ps → AllByRecursion (λ p. at p < first_lane from) (told_all ps)
+told-low : (from : ℕ) (ps : List Packet) → AllByRecursion HasLanes ps → AllByRecursion (IsBefore from) ps → AllByRecursion (λ p. at p < first_lane from) ps
 told-low from [] lanes h = tt
 told-low from (p ∷ ps) lanes h = (block-low from (told p) lanes.0 h.0, told-low from ps lanes.1 h.1)
 
-told-high : (to : ℕ) (ps : List Packet) → AllByRecursion (IsBehind to) ps → AllByRecursion (λ p. first_lane to ≤ at p) (told_all ps)
+told-high : (to : ℕ) (ps : List Packet) → AllByRecursion (IsBehind to) ps → AllByRecursion (λ p. first_lane to ≤ at p) ps
 told-high to [] h = tt
 told-high to (p ∷ ps) h = (block-high to (told p) h.0, told-high to ps h.1)
 
@@ -107,18 +106,18 @@ within-middle from to xs ys zs low behind before high =
     ∙ filter-append test ys zs ∙ ap (λ l. l ++ within from to zs) (within-whole from to ys behind before)
     ∙ ap (λ l. ys ++ l) (within-past from to zs high) ∙ append-nil ys
 
-told-three : (xs ys zs : List Packet) → told_all (xs ++ (ys ++ zs)) ≡ told_all xs ++ (told_all ys ++ told_all zs)
-told-three xs ys zs = map-append told xs (ys ++ zs) ∙ ap (λ l. told_all xs ++ l) (map-append told ys zs)
+told-three : (xs ys zs : List Packet) → (xs ++ (ys ++ zs)) ≡ xs ++ (ys ++ zs)
+told-three xs ys zs = map-append told xs (ys ++ zs) ∙ ap (λ l. xs ++ l) (map-append told ys zs)
 
-middle-told : (from to : ℕ) (xs ys zs : List Packet) → AllByRecursion HasLanes (told_all (xs ++ (ys ++ zs))) → AllByRecursion (IsBefore from) xs
+middle-told : (from to : ℕ) (xs ys zs : List Packet) → AllByRecursion HasLanes (xs ++ (ys ++ zs)) → AllByRecursion (IsBefore from) xs
     → AllByRecursion (IsBehind from) ys → AllByRecursion (IsBefore to) ys → AllByRecursion (IsBehind to) zs
-    → told_all ys ≡ within (first_lane from) (first_lane to) (told_all (xs ++ (ys ++ zs)))
+    → ys ≡ within (first_lane from) (first_lane to) (xs ++ (ys ++ zs))
 middle-told from to xs ys zs lanes low behind before high =
     let three = told-three xs ys zs in
     let all = subst (AllByRecursion HasLanes) three lanes in
-    let of_ys = lanes-front (told_all ys) (told_all zs) (lanes-back (told_all xs) (told_all ys ++ told_all zs) all) in
+    let of_ys = lanes-front ys zs (lanes-back xs (ys ++ zs) all) in
     sym (ap (within (first_lane from) (first_lane to)) three
-    ∙ within-middle (first_lane from) (first_lane to) (told_all xs) (told_all ys) (told_all zs) (told-low from xs (lanes-front (told_all xs) (told_all ys ++ told_all zs) all) low)
+    ∙ within-middle (first_lane from) (first_lane to) xs ys zs (told-low from xs (lanes-front xs (ys ++ zs) all) low)
     (told-high from ys behind) (told-low to ys of_ys before) (told-high to zs high))
 
 -- ---- the ending of a part
@@ -126,12 +125,12 @@ middle-told from to xs ys zs lanes low behind before high =
 ends-walk : (p : Part) (ending : Ending) (on : Mark → Rest) → p.ending ≡ Some ending → joined_after p on ≡ (p.packets, ending)
 ends-walk p ending on ends = rw ends refl
 
-told-before : (to : ℕ) (ps : List Packet) → AllByRecursion (IsBefore to) ps → AllByRecursion (λ (p : Told). p.pos.block < to) (told_all ps)
+told-before : (to : ℕ) (ps : List Packet) → AllByRecursion (IsBefore to) ps → AllByRecursion (λ (p : Told). p.pos.block < to) ps
 told-before to [] h = tt
 told-before to (p ∷ ps) h = (h.0, told-before to ps h.1)
 
 abbrev EndsAt : Plan → ℕ → Ending → Type 0
-EndsAt plan to e = (e ≡ (film_walk plan).1) × AllByRecursion (λ (p : Told). p.pos.block < to) (film_told plan)
+EndsAt plan to e = (e ≡ (film_walk plan).1) × AllByRecursion (λ (p : Told). p.pos.block < to) (packets_of plan)
 
 -- where the part has an ending it is the film's, and all packets stand before the part's end
 ends-by : (plan : Plan) (m : Mark) → IsPlan plan → IsMark plan m → FallsAt plan m → (ending : Option Ending) → (part_at plan m).ending ≡ ending → IfSome ending (EndsAt plan (part_at plan m).to.pos)
@@ -146,10 +145,10 @@ ends-by plan m is mark falls (Some e) ends =
     let whole = falls.joined ∙ ap (in_front falls.front) last in
     let packets : (film_walk plan).0 ≡ falls.front ++ p.packets = ap (λ (r : Rest). r.0) whole in
     let all = all-append (IsBefore p.to.pos) falls.front p.packets (before-later m.pos p.to.pos falls.front (let h = onward.0 in omega arith) falls.before) inside.before in
-    (sym (ap (λ (r : Rest). r.1) whole), subst (λ ps. AllByRecursion (λ (q : Told). q.pos.block < p.to.pos) (told_all ps)) (sym packets) (told-before p.to.pos (falls.front ++ p.packets) all))
+    (sym (ap (λ (r : Rest). r.1) whole), subst (λ ps. AllByRecursion (λ (q : Told). q.pos.block < p.to.pos) ps) (sym packets) (told-before p.to.pos (falls.front ++ p.packets) all))
 
 -- the chunk at a mark of a film is a part of it
-pub is-part : (plan : Plan) (m : Mark) → IsPlan plan → IsFilm (film_told plan) → IsMark plan m → IsPartOf (film_for plan) (chunk_at plan m)
+pub is-part : (plan : Plan) (m : Mark) → IsPlan plan → IsFilm (packets_of plan) → IsMark plan m → IsPartOf (film_for plan) (chunk_at plan m)
 is-part plan m is film mark =
     let p = part_at plan m in
     let lies = mark-lies plan m is.1 mark in
@@ -160,13 +159,13 @@ is-part plan m is film mark =
     let rest = from_end plan p in
     let whole = falls.joined ∙ ap (in_front falls.front) (walk-parts (steps plan) plan (place_of plan m) (level_of m) lies (omega arith)) in
     let packets : (film_walk plan).0 ≡ falls.front ++ (p.packets ++ rest.0) = ap (λ (r : Rest). r.0) whole in
-    let lanes = subst (λ ps. AllByRecursion HasLanes (told_all ps)) packets film.lanes in
+    let lanes = subst (λ ps. AllByRecursion HasLanes ps) packets film.lanes in
     record {
       part = refl;
       onward = let h = onward.0 in omega arith;
       packets =
           middle-told m.pos p.to.pos falls.front p.packets rest.0 lanes falls.before (behind-earlier m.pos (place_of plan m) p.packets under inside.behind) inside.before
           (walk-behind (steps plan) plan p.to.pos p.to.level onward.1)
-          ∙ ap (λ ps. within (first_lane m.pos) (first_lane p.to.pos) (told_all ps)) (sym packets);
+          ∙ ap (λ ps. within (first_lane m.pos) (first_lane p.to.pos) ps) (sym packets);
       ends = ends-by plan m is mark falls p.ending refl;
     }

@@ -32,7 +32,7 @@ use Rattle.mc_demux.proofs.Showing.{front_is, tells_is}
 use Rattle.mc_journal.specs.Drives.{OfEach, is_order, readings, selection, still_left, tells_reader, untold}
 use Rattle.mc_journal.specs.Callers.{reader}
 use Rattle.mc_lines.specs.Calls.{AtRest}
-use Rattle.mc_world.specs.Machines.{choice_for}
+use Rattle.mc_filmed.specs.Films.{choice_for}
 
 -- ---- what stands among records
 

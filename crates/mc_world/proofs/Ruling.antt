@@ -9,9 +9,9 @@ use Rattle.mc_demux.specs.Jobs.{job_of}
 use Rattle.mc_journal.specs.Drives.{Readings, readings}
 use Rattle.mc_lines.specs.Calls.{AtRest, at}
 use Rattle.mc_world.specs.declared.driver.Driver.{Driver}
-use Rattle.mc_world.specs.Filmed.{film_for}
+use Rattle.mc_filmed.specs.Films.{film_for, choice_for}
 use Rattle.mc_world.specs.Driving.{Drives}
-use Rattle.mc_world.specs.Machines.{Stands, ahead_of, choice_for, fixed_of}
+use Rattle.mc_world.specs.Machines.{Stands, ahead_of, fixed_of}
 use Rattle.mc_world.proofs.Rested.{idle_is_idle, rests}
 use Rattle.mc_world.proofs.Shown.{shown}
 use Rattle.mc_world.proofs.Staying.{Stays, still_readings}

@@ -26,7 +26,8 @@ use Rattle.mc_demux.proofs.Idling.{idle_is}
 use Rattle.mc_demux.proofs.Emptied.{quiet_is}
 use Rattle.mc_journal.specs.Drives.{readings}
 use Rattle.mc_lines.specs.Calls.{Ahead, AnswersOn, at}
-use Rattle.mc_world.specs.Machines.{ahead_of, choice_for, place_of, would_tell}
+use Rattle.mc_world.specs.Machines.{ahead_of, place_of, would_tell}
+use Rattle.mc_filmed.specs.Films.{choice_for}
 use Rattle.mc_world.proofs.Called.{next_gave, next_none}
 
 same_ahead : (set set' : Choice) (front front' : ℕ → Option ℕ) (tells tells' : ℕ → Bool) (idle idle' : Bool) (time time' : ℤ) (choice : List ℕ → Result Choice Why) (pending pending' : Option (ℤ × Dir))

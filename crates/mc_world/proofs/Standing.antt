@@ -19,7 +19,7 @@ use Rattle.mc_cursor.specs.declared.cursor.Cursor.{Cursor}
 use Rattle.mc_cursor.specs.Standing.{StandsFor as CursorStandsFor, plan_for, at_mark}
 use Rattle.mc_cursor.proofs.Standing.{opening_lies}
 use Rattle.mc_index.specs.declared.index.Index.{Index}
-use Rattle.mc_index.specs.Fronts.{known_in}
+use Rattle.mc_tracks.specs.Selection.{knows}
 use Rattle.mc_index.specs.Scans.{IsIndexOf, IsPlan}
 use Rattle.mc_range.specs.Range.{RangeState}
 use Rattle.mc_cache.specs.Cache.{in_front, mark_in, ranges_of}
@@ -38,7 +38,7 @@ use Rattle.mc_demux.specs.Marks.{AreAmong, marks_of}
 use Rattle.mc_demux.specs.Outcomes.{Finds, Feeds, Fails}
 use Rattle.mc_world.specs.declared.brought.Brought.{Brought}
 use Rattle.mc_world.specs.declared.brought.Brought.TheVariants.{Part, Starts, Nothing}
-use Rattle.mc_world.specs.Filmed.{film_for}
+use Rattle.mc_filmed.specs.Films.{film_for}
 use Rattle.mc_world.specs.Driving.{StandTogether}
 use Rattle.mc_world.specs.Working.{AreStarts, AreSeekStarts, AreSwitchStarts, IsChunkAt, IsPart, IsOfFilm, Stops, Takes, marks_in}
 use Rattle.mc_world.proofs.Chosen.{selected-known, kept-known}
@@ -156,8 +156,8 @@ brought-stands octets old new c c' x x' n brought result s moves cursor index of
       index_is = subst (λ p. IsIndexOf p x') (sym plan) index;
       marks = subst (λ p. AllByRecursion (HaveMark (IsMark p)) (ranges_of new.cache)) (sym plan) (brought-kept (IsMark (plan_for octets c)) brought old new of.mark s.marks among);
       lead =
-          subst (λ (p : Plan). passes new.switch.lead (is_listed (known_in p.tracks)) ≡ true) (sym plan)
-          (subst (λ (w : Switch). passes w.lead (is_listed (known_in c.tracks)) ≡ true) (sym (takes-switch n brought old result new takes)) s.lead);
+          subst (λ (p : Plan). passes new.switch.lead (is_listed (knows p.tracks)) ≡ true) (sym plan)
+          (subst (λ (w : Switch). passes w.lead (is_listed (knows c.tracks)) ≡ true) (sym (takes-switch n brought old result new takes)) s.lead);
     }
 
 -- ---- the starts of a seek
@@ -169,20 +169,20 @@ kept-is : (d : DemuxState) (job : Job) → IsDemux d → Keeps d job → KeepsJo
 kept-is d job is kept = subst (λ o. IfSome o (KeepsJob d)) kept is.kept
 
 -- the selected tracks are the film's
-pub set-known : (plan : Plan) (d : DemuxState) → StandsFor (film_for plan) d → is_known (known_in plan.tracks) d.set ≡ true
-set-known plan d s = subst (λ set. is_known (known_in plan.tracks) set ≡ true) s.fits.set_is (selected-known (film_for plan) d.cache.limits (reverse d.journal) s.fits.used)
+pub set-known : (plan : Plan) (d : DemuxState) → StandsFor (film_for plan) d → is_known (knows plan.tracks) d.set ≡ true
+set-known plan d s = subst (λ set. is_known (knows plan.tracks) set ≡ true) s.fits.set_is (selected-known (film_for plan) d.cache.limits (reverse d.journal) s.fits.used)
 
-pub waiting-known : (plan : Plan) (d : DemuxState) → StandsFor (film_for plan) d → is_known (known_in plan.tracks) d.waiting ≡ true
+pub waiting-known : (plan : Plan) (d : DemuxState) → StandsFor (film_for plan) d → is_known (knows plan.tracks) d.waiting ≡ true
 waiting-known plan d s =
-    subst (λ set. is_known (known_in plan.tracks) set ≡ true) (sym s.fits.waits_are)
-    (kept-known (known_in plan.tracks) d.set (λ track. waits track (reverse d.journal)) (set-known plan d s))
+    subst (λ set. is_known (knows plan.tracks) set ≡ true) (sym s.fits.waits_are)
+    (kept-known (knows plan.tracks) d.set (λ track. waits track (reverse d.journal)) (set-known plan d s))
 
 pub seek-is : (plan : Plan) (d : DemuxState) (m n : ℕ) (set : Choice) (t : ℤ) (dir : Dir) (brought : Brought) → IsPlan plan → IsDemux d → StandsFor (film_for plan) d
     → Keeps d (SeekTo n set t dir) → AreSeekStarts plan set t dir brought → AreStarts set brought → IsOf plan m brought d
 seek-is plan d m n set t dir (Part c) plan_is is s kept found fits = absurd fits
 seek-is plan d m n set t dir (Starts starts) plan_is is s kept found fits =
     let k = (kept-is d (SeekTo n set t dir) is kept).is in
-    let known : is_known (known_in plan.tracks) set ≡ true = subst (λ c. is_known (known_in plan.tracks) c ≡ true) (sym k.1) (set-known plan d s) in
+    let known : is_known (knows plan.tracks) set ≡ true = subst (λ c. is_known (knows plan.tracks) c ≡ true) (sym k.1) (set-known plan d s) in
     record {
       film = λ e. subst (λ o. IfSome o (AreStartsOf (film_for plan) starts)) (sym kept) (of-seek plan set dir t starts known found.0 found.1);
       mark = starts-mark plan starts plan_is found.0;
@@ -190,13 +190,13 @@ seek-is plan d m n set t dir (Starts starts) plan_is is s kept found fits =
 seek-is plan d m n set t dir (Nothing failure) plan_is is s kept found fits = record { film = tt; mark = tt }
 
 pub added-is : (plan : Plan) (d : DemuxState) (m n : ℕ) (added : Choice) (lead : Option ℕ) (at : ℤ) (brought : Brought) → IsPlan plan → IsDemux d → StandsFor (film_for plan) d
-    → passes d.switch.lead (is_listed (known_in plan.tracks)) ≡ true
+    → passes d.switch.lead (is_listed (knows plan.tracks)) ≡ true
     → Keeps d (Refresh n added lead at) → AreSwitchStarts plan added lead at brought → AreStarts added brought → IsOf plan m brought d
 added-is plan d m n added lead at (Part c) plan_is is s listed kept found fits = absurd fits
 added-is plan d m n added lead at (Starts starts) plan_is is s listed kept found fits =
     let k = (kept-is d (Refresh n added lead at) is kept).is in
-    let known : is_known (known_in plan.tracks) added ≡ true = subst (λ c. is_known (known_in plan.tracks) c ≡ true) (sym k.1) (waiting-known plan d s) in
-    let leads : passes lead (is_listed (known_in plan.tracks)) ≡ true = subst (λ (w : Switch). passes w.lead (is_listed (known_in plan.tracks)) ≡ true) k.3 listed in
+    let known : is_known (knows plan.tracks) added ≡ true = subst (λ c. is_known (knows plan.tracks) c ≡ true) (sym k.1) (waiting-known plan d s) in
+    let leads : passes lead (is_listed (knows plan.tracks)) ≡ true = subst (λ (w : Switch). passes w.lead (is_listed (knows plan.tracks)) ≡ true) k.3 listed in
     record {
       film = λ e. subst (λ o. IfSome o (AreStartsOf (film_for plan) starts)) (sym kept) (of-switch plan added lead at starts known leads found.0 found.1);
       mark = starts-mark plan starts plan_is found.0;

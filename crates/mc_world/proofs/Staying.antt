@@ -29,8 +29,7 @@ use Rattle.mc_demux.specs.Viewing.{Shows}
 use Rattle.mc_journal.specs.Drives.{Readings, readings}
 use Rattle.mc_world.specs.declared.brought.Brought.{Brought}
 use Rattle.mc_world.specs.declared.brought.Brought.TheVariants.{Part, Starts, Nothing}
-use Rattle.mc_world.specs.Filmed.{film_for}
-use Rattle.mc_world.specs.Machines.{choice_for}
+use Rattle.mc_filmed.specs.Films.{film_for, choice_for}
 use Rattle.mc_world.specs.Working.{Takes}
 
 pub record Stays (old new : DemuxState) : Type 0 where

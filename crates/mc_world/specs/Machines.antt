@@ -16,7 +16,6 @@ use Rattle.mc_demux.specs.declared.job.Job.TheVariants.{Resume, Read}
 use Rattle.mc_demux.specs.Demuxers.{IsDemux}
 use Rattle.mc_demux.specs.Jobs.{job_of}
 use Rattle.mc_demux.specs.Readings.{peek_at, reading_of}
-use Rattle.mc_demux.specs.Selecting.{choice_of, refusal_of}
 use Rattle.mc_demux.specs.Shows.{goal_of, is_finish, is_idle_job}
 use Rattle.mc_demux.specs.State.{DemuxState, next_in}
 use Rattle.mc_journal.specs.Drives.{Readings, readings}
@@ -24,16 +23,8 @@ use Rattle.mc_lines.specs.Calls.{Ahead, AtRest, Fixed, Jobs, at}
 use Rattle.mc_world.specs.declared.brought.Brought.{Brought}
 use Rattle.mc_world.specs.declared.driver.Driver.{Driver}
 use Rattle.mc_world.specs.Driving.{Drives}
-use Rattle.mc_world.specs.Filmed.{film_for}
+use Rattle.mc_filmed.specs.Films.{choice_for, film_for}
 use Rattle.mc_world.specs.Working.{CountsFit, Takes}
-
--- the choice that numbers make of a list's tracks, or its refusal
-abbrev pub refused_or : Option Why → Choice → Result Choice Why
-refused_or None set = Ok set
-refused_or (Some why) set = Err why
-
-abbrev pub choice_for : List Track → List ℕ → Result Choice Why
-choice_for list numbers = refused_or (refusal_of list numbers) (choice_of list numbers)
 
 abbrev pub place_of : Packet → ℕ
 place_of p = rank p.pos

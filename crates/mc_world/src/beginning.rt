@@ -12,19 +12,18 @@ ghost use Rattle.mc_journal.specs.Films.{IsFilm};
 ghost use Rattle.mc_cursor.specs.declared.cursor.Cursor.{Cursor};
 ghost use Rattle.mc_cursor.specs.Standing.{StandsFor as CursorStandsFor, plan_for};
 ghost use Rattle.mc_index.specs.declared.index.Index.{Index};
-ghost use Rattle.mc_index.specs.Fronts.{film_told};
+ghost use Rattle.mc_filmed.specs.Films.{packets_of, film_for};
 ghost use Rattle.mc_index.specs.Scans.{IsIndexOf, IsPlan};
 ghost use Rattle.mc_demux.specs.State.{DemuxState};
 ghost use Rattle.mc_demux.specs.Film.{StandsFor};
 ghost use Rattle.mc_demux.specs.Opening.{HasTracks, IsOpened};
 ghost use Rattle.mc_demux.specs.Selecting.{knows};
-ghost use Rattle.mc_world.specs.Filmed.{film_for};
 ghost use Rattle.mc_world.specs.Driving.{StandTogether};
 
 /// The packets of a film of octets are a film's list: their places rise, their lanes are small, and
 /// only frame 0 of a block is a sync point.
 pub fn film_lists()
-    ensures { (plan : Plan) → IsPlan plan → AreBytes plan.octets → IsFilm (film_told plan) }
+    ensures { (plan : Plan) → IsPlan plan → AreBytes plan.octets → IsFilm (packets_of plan) }
 {}
 
 /// A demuxer of a film's tracks has the tracks of the film that it tells of, and those that are

@@ -4,7 +4,7 @@ use Rattle.mc_cursor.specs.Standing.{plan_for}
 use Rattle.mc_index.specs.Scans.{IsIndexOf}
 use Rattle.mc_demux.specs.declared.job.Job.{Job}
 use Rattle.mc_demux.specs.declared.job.Job.TheVariants.{SeekTo, Refresh}
-use Rattle.mc_world.specs.Filmed.{film_for}
+use Rattle.mc_filmed.specs.Films.{film_for}
 use Rattle.mc_world.specs.Working.{AreSeekStarts, AreSwitchStarts}
 use Rattle.mc_world.proofs.Standing.{added-is, brought-stands, film-plan, same-plan, seek-is}
 use Rattle.mc_world.proofs.driver.Driver.do_job.Goals as goal

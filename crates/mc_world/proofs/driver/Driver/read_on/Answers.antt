@@ -1,6 +1,6 @@
 use Rattle.mc_walk.specs.Parts.{IsMark}
 use Rattle.mc_cursor.specs.Standing.{plan_for}
-use Rattle.mc_world.specs.Filmed.{film_for}
+use Rattle.mc_filmed.specs.Films.{film_for}
 use Rattle.mc_world.proofs.Standing.{brought-stands, current-mark, film-plan, part-is}
 use Rattle.mc_world.proofs.driver.Driver.read_on.Goals as goal
 

@@ -3,7 +3,7 @@ use Rattle.mc_cursor.specs.declared.cursor.Cursor.{Cursor}
 use Rattle.mc_cursor.specs.Standing.{plan_for}
 use Rattle.mc_journal.specs.declared.record.DemuxRecord.TheVariants.{Starved as StarvedRecord}
 use Rattle.mc_demux.specs.declared.waiting.Failure.TheVariants.{Starved}
-use Rattle.mc_world.specs.Filmed.{film_for}
+use Rattle.mc_filmed.specs.Films.{film_for}
 use Rattle.mc_world.proofs.Calling.{fails-stands}
 use Rattle.mc_world.proofs.Ruling.{stands_on}
 use Rattle.mc_world.proofs.Staying.{fails_stays, takes_stays}

@@ -1,12 +1,10 @@
-use Rattle.std.proofs.Common.{refl}
+use Rattle.std.proofs.Common.{refl, subst, sym}
 use Rattle.mc_cursor.specs.Standing.{plan_for}
-use Rattle.mc_world.specs.Filmed.{film_for}
+use Rattle.mc_filmed.specs.Films.{film_for, choice_for}
 use Rattle.mc_world.proofs.Called.{reads_of, read_jobs}
 use Rattle.mc_world.proofs.Calling.{read-stands}
 use Rattle.mc_world.proofs.Ruling.{fixed_on, stands_on}
 use Rattle.mc_world.proofs.Shown.{answers}
-use Rattle.mc_world.specs.Machines.{choice_for}
-use Rattle.std.proofs.Common.{subst, sym}
 use Rattle.mc_lines.specs.Calls.{AnswersOn}
 use Rattle.mc_world.proofs.Staying.{reads_stays}
 use Rattle.mc_world.proofs.machine.DriverMachine.read.Goals as goal

@@ -2,7 +2,7 @@ use Rattle.std.proofs.Common.{refl, subst, SFits, w64, rules}
 use Rattle.std.proofs.lemmas.Int.{to_z-of_z}
 use Rattle.mc_lines.specs.Calls.{Selects}
 use Rattle.mc_cursor.specs.Standing.{plan_for}
-use Rattle.mc_world.specs.Filmed.{film_for}
+use Rattle.mc_filmed.specs.Films.{film_for}
 use Rattle.mc_world.specs.Machines.{ahead_of, jobs_of}
 use Rattle.mc_world.proofs.Called.{selects}
 use Rattle.mc_world.proofs.Calling.{select-stands}

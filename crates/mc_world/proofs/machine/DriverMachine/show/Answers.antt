@@ -1,6 +1,6 @@
 use Rattle.std.proofs.Common.{refl}
 use Rattle.mc_cursor.specs.Standing.{plan_for}
-use Rattle.mc_world.specs.Filmed.{film_for}
+use Rattle.mc_filmed.specs.Films.{film_for}
 use Rattle.mc_world.proofs.Called.{shows}
 use Rattle.mc_world.proofs.Calling.{show-stands}
 use Rattle.mc_world.proofs.Ruling.{fixed_on, stands_on}

@@ -15,6 +15,7 @@ use Rattle.mc_journal.specs.declared.record.DemuxRecord.TheVariants.{Sought, Swi
 use Rattle.mc_packet.specs.Choices.{is_empty}
 use Rattle.mc_journal.specs.Films.{rank}
 use Rattle.mc_journal.specs.Readings.{direction, pending, target}
+use Rattle.mc_packet.specs.declared.packet.Packet.{Packet}
 use Rattle.mc_journal.specs.Told.{gave_by}
 use Rattle.mc_demux.specs.declared.answer.DemuxError.{DemuxError}
 use Rattle.mc_demux.specs.declared.answer.DemuxError.TheVariants as errors
@@ -31,7 +32,7 @@ use Rattle.mc_demux.specs.declared.job.Job.TheVariants.{SeekTo, Refresh, Resume,
 use Rattle.mc_demux.specs.Outcomes.{HasRisen}
 use Rattle.mc_demux.specs.Records.{HasRoom, WroteAll}
 use Rattle.mc_journal.specs.Drives.{Readings, OfEach, is_order, is_outcome, newest, selection, untold}
-use Rattle.mc_journal.specs.Callers.{by_of}
+use Rattle.mc_journal.specs.Callers.{by_of, demuxer}
 
 -- ---- what the next calls would answer
 
@@ -134,9 +135,9 @@ FailsIn least most _ = ⊤
 pub record Outcome (before after : ℕ) (old new : List DemuxRecord) : Type 0 where
   pub own : DemuxRecord
   pub is : is_outcome own ≡ true
-  pub by_demuxer : by_of own ≡ 5
+  pub by_demuxer : by_of own ≡ demuxer
   pub fails : FailsIn before after own
-  pub wrote : WroteAll 5 (own ∷ []) old new
+  pub wrote : WroteAll demuxer (own ∷ []) old new
 
 -- a job was done and its outcome brought
 abbrev pub Brings : Job → ℕ → ℕ → List DemuxRecord → List DemuxRecord → Jobs → Jobs → Result Taken DemuxError → Type 0

@@ -3,3 +3,4 @@ pub mod Calls
 pub mod Nexts
 pub mod Lines
 pub mod Runs
+pub mod Films

@@ -1,8 +1,6 @@
 ghost use Rattle.std.specs.Prelude.{◌≡◌, None, Some, List, ℕ};
-ghost use Rattle.mc_outside.specs.Shelf.{content};
-ghost use Rattle.mc_packet.specs.Choices.{is_empty as empty_lem};
 ghost use Rattle.mc_script.specs.declared.acts.Act.TheVariants.{Drain};
-ghost use Rattle.mc_journal.specs.Drives.{Readings};
+ghost use Rattle.mc_lines.specs.Films.{OnShelf, StaysTold};
 ghost use Rattle.mc_lines.specs.Lines.{Grows, IsFull, Line};
 ghost use Rattle.mc_lines.specs.Nexts.{without as without_lem};
 
@@ -13,12 +11,6 @@ use crate::reads::read_one;
 use crate::turns::turn;
 use mc_outside::Shelf;
 use mc_packet::{Choice, Kind};
-
-fn is_empty(set: &Choice) -> bool
-    ensures { result ≡ empty_lem set.now }
-{
-    set.video.is_none() && set.audio.is_none() && set.sub.is_none()
-}
 
 /// The set without a kind's track.
 fn without(set: Choice, kind: Kind) -> Choice
@@ -37,16 +29,18 @@ fn without(set: Choice, kind: Kind) -> Choice
 /// demuxer does a job. Each step adds a record to a journal that is not full, so the steps end.
 /// `JournalFull` only where the journal has 16,000,000 records, and `NoMemory` for want of memory.
 pub fn drain<S: Shelf, M: Machine>(machine: &mut M, shelf: &mut S) -> Result<(), Halt>
-    ensures line { (octets : List ℕ) (rd : Readings) → content (S.files shelf.old) (S.opened shelf.old) (M.fixed machine.old).file ≡ Some octets → M.stands machine.old octets rd → Line rd Drain None (M.journal machine.old) (M.journal machine.new) result }
+    ensures line { OnShelf S.files S.opened shelf.old M.fixed M.stands machine.old
+        (λ octets rd. Line rd Drain None (M.journal machine.old) (M.journal machine.new) result) }
     ensures full { IsFull (M.journal machine.new) result }
-    ensures grows { Grows (S.faults shelf.old) (S.faults shelf.new) (M.journal machine.old) (M.journal machine.new) }
-    ensures stands { (octets : List ℕ) (rd : Readings) → content (S.files shelf.old) (S.opened shelf.old) (M.fixed machine.old).file ≡ Some octets → M.stands machine.old octets rd → M.stands machine.new octets rd }
+    ensures grows { Grows (S.faults shelf.old) (S.faults shelf.new) (M.journal machine.old)
+        (M.journal machine.new) }
+    ensures stands { StaysTold S.files S.opened shelf.old M.fixed M.stands machine.old machine.new }
     ensures fixed { M.fixed machine.new ≡ M.fixed machine.old }
     ensures files { S.files shelf.new ≡ S.files shelf.old }
     ensures opened { S.opened shelf.new ≡ S.opened shelf.old }
 {
     let mut left = machine.selection();
-    while !is_empty(&left) {
+    while !left.is_empty() {
         match next_of(machine, &left) {
             Next::Give { kind, track } => read_one(machine, kind, track)?,
             Next::Tell { kind, track } => {

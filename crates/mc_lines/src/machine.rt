@@ -6,9 +6,9 @@ use mc_packet::{CacheView, Choice, Dir, TrackNo};
 /// A demuxer with what it takes to do its jobs, by what its calls answer and add to its journal.
 pub trait Machine {
     ghost use Rattle.std.specs.Prelude.{◌≡◌, ℕ, ◌≤◌, List, Some, true};
-    ghost use Rattle.mc_outside.specs.Shelf.{content};
     ghost use Rattle.mc_journal.specs.declared.record.DemuxRecord.{DemuxRecord};
     ghost use Rattle.mc_journal.specs.Drives.{Readings};
+    ghost use Rattle.mc_lines.specs.Films.{OnStand, StaysOn, StaysTold};
     ghost use Rattle.mc_lines.specs.Calls.{Ahead, AnswersOn, AtRest, Bears, Brings, Fixed, Jobs, Peeks, Reads, Seeks, Selects, Shows, Takes, at};
 
     ghost journal: { Self → List DemuxRecord };
@@ -26,40 +26,47 @@ pub trait Machine {
     ghost stands: { Self → List ℕ → Readings → Type 0 };
 
     fn seek(&mut self, by: u32, t: i64, dir: Dir) -> Result<Sought, DemuxError>
-        ensures seeks { Seeks (ahead self.old) by t dir (journal self.old) (journal self.new) (jobs self.old) (jobs self.new) result }
-        ensures stands { (octets : List ℕ) (rd : Readings) → stands self.old octets rd → stands self.new octets rd }
+        ensures seeks { Seeks (ahead self.old) by t dir (journal self.old) (journal self.new)
+            (jobs self.old) (jobs self.new) result }
+        ensures stands { StaysOn stands self.old self.new }
         ensures fixed { fixed self.new ≡ fixed self.old };
 
     fn select(&mut self, by: u32, set: &[TrackNo], at: i64) -> Result<Selected, DemuxError>
-        ensures selects { Selects (ahead self.old) by set.now at (journal self.old) (journal self.new) (jobs self.old) (jobs self.new) result }
-        ensures stands { (octets : List ℕ) (rd : Readings) → stands self.old octets rd → stands self.new octets rd }
+        ensures selects { Selects (ahead self.old) by set.now at (journal self.old)
+            (journal self.new) (jobs self.old) (jobs self.new) result }
+        ensures stands { StaysOn stands self.old self.new }
         ensures fixed { fixed self.new ≡ fixed self.old };
 
     fn show(&mut self, by: u32) -> Result<CacheView, DemuxError>
-        ensures shows { Shows by (journal self.old) (journal self.new) (jobs self.old) (jobs self.new) result }
-        ensures stands { (octets : List ℕ) (rd : Readings) → stands self.old octets rd → stands self.new octets rd }
+        ensures shows { Shows by (journal self.old) (journal self.new) (jobs self.old)
+            (jobs self.new) result }
+        ensures stands { StaysOn stands self.old self.new }
         ensures fixed { fixed self.new ≡ fixed self.old };
 
     fn next_job(&mut self) -> Result<Job, DemuxError>
-        ensures takes { Takes (ahead self.old) (journal self.old) (journal self.new) (jobs self.old) (jobs self.new) result }
-        ensures stands { (octets : List ℕ) (rd : Readings) → stands self.old octets rd → stands self.new octets rd }
+        ensures takes { Takes (ahead self.old) (journal self.old) (journal self.new) (jobs self.old)
+            (jobs self.new) result }
+        ensures stands { StaysOn stands self.old self.new }
         ensures fixed { fixed self.new ≡ fixed self.old };
 
     /// Does a job that was taken, on the shelf that holds the film's file, and brings its outcome.
     fn bring<S: Shelf>(&mut self, shelf: &mut S, job: Job) -> Result<Taken, DemuxError>
         requires bears { Bears job (jobs self.old) }
-        ensures brings { Brings job (S.faults shelf.old) (S.faults shelf.new) (journal self.old) (journal self.new) (jobs self.old) (jobs self.new) result }
-        ensures stands { (octets : List ℕ) (rd : Readings) → content (S.files shelf.old) (S.opened shelf.old) (fixed self.old).file ≡ Some octets → stands self.old octets rd → stands self.new octets rd }
+        ensures brings { Brings job (S.faults shelf.old) (S.faults shelf.new) (journal self.old)
+            (journal self.new) (jobs self.old) (jobs self.new) result }
+        ensures stands { StaysTold S.files S.opened shelf.old fixed stands self.old self.new }
         ensures fixed { fixed self.new ≡ fixed self.old }
         ensures files { S.files shelf.new ≡ S.files shelf.old }
         ensures opened { S.opened shelf.new ≡ S.opened shelf.old }
         ensures later { S.faults shelf.old ≤ S.faults shelf.new };
 
     fn read(&mut self, by: u32, track: TrackNo) -> Result<Reading, DemuxError>
-        ensures reads { Reads (ahead self.old) by track (journal self.old) (journal self.new) result }
+        ensures reads { Reads (ahead self.old) by track
+            (journal self.old) (journal self.new) result }
         ensures jobs { jobs self.new ≡ jobs self.old }
-        ensures film { (octets : List ℕ) (rd : Readings) → stands self.old octets rd → AnswersOn rd track (journal self.old) (journal self.new) result }
-        ensures stands { (octets : List ℕ) (rd : Readings) → stands self.old octets rd → stands self.new octets rd }
+        ensures film { OnStand stands self.old
+            (λ octets rd. AnswersOn rd track (journal self.old) (journal self.new) result) }
+        ensures stands { StaysOn stands self.old self.new }
         ensures fixed { fixed self.new ≡ fixed self.old };
 
     /// What a read of the track would answer.
@@ -75,8 +82,9 @@ pub trait Machine {
         ensures { result ≡ (ahead self.now).time };
 
     /// On its film the next calls answer what the journal says.
-    ghost shows_film: { (m : Self) (octets : List ℕ) (rd : Readings) → stands m octets rd → ahead m ≡ at rd (journal m) };
+    ghost shows_film: { (m : Self) → OnStand stands m (λ octets rd. ahead m ≡ at rd (journal m)) };
 
     /// Where nothing is to be done, all that is cached can be read to the end.
-    ghost rests: { (m : Self) (octets : List ℕ) (rd : Readings) → stands m octets rd → (ahead m).idle ≡ true → AtRest rd (journal m) };
+    ghost rests: { (m : Self) → OnStand stands m
+        (λ octets rd. (ahead m).idle ≡ true → AtRest rd (journal m)) };
 }

@@ -1,9 +1,8 @@
 ghost use Rattle.std.specs.Prelude.{◌≡◌, ℕ, List, Option, None, Some, OnOk, false};
-ghost use Rattle.mc_outside.specs.Shelf.{content};
 ghost use Rattle.mc_journal.specs.declared.record.DemuxRecord.{DemuxRecord};
 ghost use Rattle.mc_script.specs.declared.acts.Act.TheVariants.{DemuxGive};
 ghost use Rattle.mc_script.specs.Pairing.{IsPaired};
-ghost use Rattle.mc_journal.specs.Drives.{Readings};
+ghost use Rattle.mc_lines.specs.Films.{OnShelf, StaysOn, StaysTold};
 ghost use Rattle.mc_lines.specs.Lines.{Grows, IsFull, Line};
 ghost use Rattle.mc_lines.specs.Runs.{Goes, IsAwaited, IsFree, IsOut, Keeps, Runs, Took};
 
@@ -18,9 +17,10 @@ use mc_outside::Shelf;
 use mc_script::Act;
 
 fn take_line<M: Machine>(machine: &mut M) -> Result<Option<Job>, Halt>
-    ensures took { Took (M.ahead machine.old) (M.journal machine.old) (M.journal machine.new) (M.jobs machine.new) result }
+    ensures took { Took (M.ahead machine.old) (M.journal machine.old) (M.journal machine.new)
+        (M.jobs machine.new) result }
     ensures full { IsFull (M.journal machine.new) result }
-    ensures stands { (octets : List ℕ) (rd : Readings) → M.stands machine.old octets rd → M.stands machine.new octets rd }
+    ensures stands { StaysOn M.stands machine.old machine.new }
     ensures fixed { M.fixed machine.new ≡ M.fixed machine.old }
 {
     match machine.next_job() {
@@ -36,10 +36,14 @@ fn give_line<S: Shelf, M: Machine>(
     job: Option<Job>,
 ) -> Result<(), Halt>
     requires awaited { IsAwaited job (M.journal machine.old) (M.jobs machine.old) }
-    ensures line { (octets : List ℕ) (rd : Readings) (taken : Option (List DemuxRecord)) → content (S.files shelf.old) (S.opened shelf.old) (M.fixed machine.old).file ≡ Some octets → M.stands machine.old octets rd → IsOut rd job taken (M.journal machine.old) (M.jobs machine.old) → Line rd DemuxGive taken (M.journal machine.old) (M.journal machine.new) result }
+    ensures line { OnShelf S.files S.opened shelf.old M.fixed M.stands machine.old (λ octets rd.
+        (taken : Option (List DemuxRecord))
+        → IsOut rd job taken (M.journal machine.old) (M.jobs machine.old)
+        → Line rd DemuxGive taken (M.journal machine.old) (M.journal machine.new) result) }
     ensures full { IsFull (M.journal machine.new) result }
-    ensures grows { Grows (S.faults shelf.old) (S.faults shelf.new) (M.journal machine.old) (M.journal machine.new) }
-    ensures stands { (octets : List ℕ) (rd : Readings) → content (S.files shelf.old) (S.opened shelf.old) (M.fixed machine.old).file ≡ Some octets → M.stands machine.old octets rd → M.stands machine.new octets rd }
+    ensures grows { Grows (S.faults shelf.old) (S.faults shelf.new) (M.journal machine.old)
+        (M.journal machine.new) }
+    ensures stands { StaysTold S.files S.opened shelf.old M.fixed M.stands machine.old machine.new }
     ensures fixed { M.fixed machine.new ≡ M.fixed machine.old }
     ensures files { S.files shelf.new ≡ S.files shelf.old }
     ensures opened { S.opened shelf.new ≡ S.opened shelf.old }
@@ -61,10 +65,15 @@ fn line<S: Shelf, M: Machine>(
     requires awaited { IsAwaited out.old (M.journal machine.old) (M.jobs machine.old) }
     ensures job { OnOk result (Keeps act.now out.old out.new) }
     ensures awaited { IsAwaited out.new (M.journal machine.new) (M.jobs machine.new) }
-    ensures line { (octets : List ℕ) (rd : Readings) (taken : Option (List DemuxRecord)) → content (S.files shelf.old) (S.opened shelf.old) (M.fixed machine.old).file ≡ Some octets → M.stands machine.old octets rd → IsOut rd out.old taken (M.journal machine.old) (M.jobs machine.old) → Goes rd act.now taken (M.journal machine.old) (M.journal machine.new) out.new (M.jobs machine.new) result }
+    ensures line { OnShelf S.files S.opened shelf.old M.fixed M.stands machine.old (λ octets rd.
+        (taken : Option (List DemuxRecord))
+        → IsOut rd out.old taken (M.journal machine.old) (M.jobs machine.old)
+        → Goes rd act.now taken (M.journal machine.old) (M.journal machine.new)
+        out.new (M.jobs machine.new) result) }
     ensures full { IsFull (M.journal machine.new) result }
-    ensures grows { Grows (S.faults shelf.old) (S.faults shelf.new) (M.journal machine.old) (M.journal machine.new) }
-    ensures stands { (octets : List ℕ) (rd : Readings) → content (S.files shelf.old) (S.opened shelf.old) (M.fixed machine.old).file ≡ Some octets → M.stands machine.old octets rd → M.stands machine.new octets rd }
+    ensures grows { Grows (S.faults shelf.old) (S.faults shelf.new) (M.journal machine.old)
+        (M.journal machine.new) }
+    ensures stands { StaysTold S.files S.opened shelf.old M.fixed M.stands machine.old machine.new }
     ensures fixed { M.fixed machine.new ≡ M.fixed machine.old }
     ensures files { S.files shelf.new ≡ S.files shelf.old }
     ensures opened { S.opened shelf.new ≡ S.opened shelf.old }
@@ -94,10 +103,12 @@ pub fn run_script<S: Shelf, M: Machine>(
     script: &[(u32, Act)],
 ) -> Result<(), Halt>
     requires paired { IsPaired false script.now }
-    ensures runs { (octets : List ℕ) (rd : Readings) → content (S.files shelf.old) (S.opened shelf.old) (M.fixed machine.old).file ≡ Some octets → M.stands machine.old octets rd → Runs rd script.now (M.journal machine.old) (M.journal machine.new) result }
+    ensures runs { OnShelf S.files S.opened shelf.old M.fixed M.stands machine.old
+        (λ octets rd. Runs rd script.now (M.journal machine.old) (M.journal machine.new) result) }
     ensures full { IsFull (M.journal machine.new) result }
-    ensures grows { Grows (S.faults shelf.old) (S.faults shelf.new) (M.journal machine.old) (M.journal machine.new) }
-    ensures stands { (octets : List ℕ) (rd : Readings) → content (S.files shelf.old) (S.opened shelf.old) (M.fixed machine.old).file ≡ Some octets → M.stands machine.old octets rd → M.stands machine.new octets rd }
+    ensures grows { Grows (S.faults shelf.old) (S.faults shelf.new) (M.journal machine.old)
+        (M.journal machine.new) }
+    ensures stands { StaysTold S.files S.opened shelf.old M.fixed M.stands machine.old machine.new }
     ensures fixed { M.fixed machine.new ≡ M.fixed machine.old }
     ensures files { S.files shelf.new ≡ S.files shelf.old }
     ensures opened { S.opened shelf.new ≡ S.opened shelf.old }

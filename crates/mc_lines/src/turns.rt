@@ -1,7 +1,6 @@
 ghost use Rattle.std.specs.Prelude.{◌≡◌, ◌≤◌, None, Some, List, ℕ};
-ghost use Rattle.mc_outside.specs.Shelf.{content};
 ghost use Rattle.mc_script.specs.declared.acts.Act.TheVariants.{Demux};
-ghost use Rattle.mc_journal.specs.Drives.{Readings};
+ghost use Rattle.mc_lines.specs.Films.{OnShelf, StaysTold};
 ghost use Rattle.mc_lines.specs.Lines.{Grows, IsFull, Line, Turns};
 
 use crate::halt::{Halt, halt_of};
@@ -13,9 +12,10 @@ use mc_outside::Shelf;
 /// where the journal has 16,000,000 records, and `NoMemory` for want of memory; nothing was
 /// brought then.
 pub fn turn<S: Shelf, M: Machine>(machine: &mut M, shelf: &mut S) -> Result<bool, Halt>
-    ensures turns { Turns (M.ahead machine.old) (S.faults shelf.old) (S.faults shelf.new) (M.journal machine.old) (M.journal machine.new) result }
+    ensures turns { Turns (M.ahead machine.old) (S.faults shelf.old) (S.faults shelf.new)
+        (M.journal machine.old) (M.journal machine.new) result }
     ensures full { IsFull (M.journal machine.new) result }
-    ensures stands { (octets : List ℕ) (rd : Readings) → content (S.files shelf.old) (S.opened shelf.old) (M.fixed machine.old).file ≡ Some octets → M.stands machine.old octets rd → M.stands machine.new octets rd }
+    ensures stands { StaysTold S.files S.opened shelf.old M.fixed M.stands machine.old machine.new }
     ensures fixed { M.fixed machine.new ≡ M.fixed machine.old }
     ensures files { S.files shelf.new ≡ S.files shelf.old }
     ensures opened { S.opened shelf.new ≡ S.opened shelf.old }
@@ -37,10 +37,13 @@ pub(crate) fn demux_line<S: Shelf, M: Machine>(
     shelf: &mut S,
     count: u32,
 ) -> Result<(), Halt>
-    ensures line { (octets : List ℕ) (rd : Readings) → content (S.files shelf.old) (S.opened shelf.old) (M.fixed machine.old).file ≡ Some octets → M.stands machine.old octets rd → Line rd (Demux count) None (M.journal machine.old) (M.journal machine.new) result }
+    ensures line { OnShelf S.files S.opened shelf.old M.fixed M.stands machine.old
+        (λ octets rd. Line rd (Demux count) None
+        (M.journal machine.old) (M.journal machine.new) result) }
     ensures full { IsFull (M.journal machine.new) result }
-    ensures grows { Grows (S.faults shelf.old) (S.faults shelf.new) (M.journal machine.old) (M.journal machine.new) }
-    ensures stands { (octets : List ℕ) (rd : Readings) → content (S.files shelf.old) (S.opened shelf.old) (M.fixed machine.old).file ≡ Some octets → M.stands machine.old octets rd → M.stands machine.new octets rd }
+    ensures grows { Grows (S.faults shelf.old) (S.faults shelf.new) (M.journal machine.old)
+        (M.journal machine.new) }
+    ensures stands { StaysTold S.files S.opened shelf.old M.fixed M.stands machine.old machine.new }
     ensures fixed { M.fixed machine.new ≡ M.fixed machine.old }
     ensures files { S.files shelf.new ≡ S.files shelf.old }
     ensures opened { S.opened shelf.new ≡ S.opened shelf.old }

@@ -72,13 +72,15 @@ fn answer_name(dir: Dir, how: Sought) -> &'static str
 }
 
 fn push_seek_line(text: &mut String, t: i64, answer: &str) -> Result<(), NoMemory>
-    ensures { OnOk result (string_bytes text.new ≡ string_bytes text.old ++ seek_text t answer.now) }
+    ensures { OnOk result
+        (string_bytes text.new ≡ string_bytes text.old ++ seek_text t answer.now) }
 {
     write!(text, "seek {t} {answer}\n")
 }
 
 pub fn push_seek(text: &mut String, t: i64, dir: Dir, how: Sought) -> Result<(), NoMemory>
-    ensures { OnOk result (string_bytes text.new ≡ string_bytes text.old ++ seek_text t (answer_text dir how)) }
+    ensures { OnOk result (string_bytes text.new
+        ≡ string_bytes text.old ++ seek_text t (answer_text dir how)) }
 {
     push_seek_line(text, t, answer_name(dir, how))
 }
@@ -161,7 +163,8 @@ fn push_mismatch(
     ours: Option<i64>,
     other: Option<i64>,
 ) -> Result<(), NoMemory>
-    ensures { OnOk result (string_bytes text.new ≡ string_bytes text.old ++ mismatch_text pos ours other) }
+    ensures { OnOk result (string_bytes text.new
+        ≡ string_bytes text.old ++ mismatch_text pos ours other) }
 {
     text.push_str(" mismatch ")?;
     push_pos(text, pos)?;
@@ -187,7 +190,8 @@ fn push_dropped(text: &mut String, track: TrackNo) -> Result<(), NoMemory>
 }
 
 pub fn push_drop(text: &mut String, drop: Removal) -> Result<(), NoMemory>
-    ensures { OnOk result (string_bytes text.new ≡ string_bytes text.old ++ drop_text drop.track drop.from drop.to drop.cause) }
+    ensures { OnOk result (string_bytes text.new
+        ≡ string_bytes text.old ++ drop_text drop.track drop.from drop.to drop.cause) }
 {
     push_dropped(text, drop.track)?;
     push_pos(text, drop.from)?;
@@ -203,7 +207,8 @@ pub fn push_overfull(
     forward: u64,
     max: u64,
 ) -> Result<(), NoMemory>
-    ensures { OnOk result (string_bytes text.new ≡ string_bytes text.old ++ overfull_text track forward max) }
+    ensures { OnOk result (string_bytes text.new
+        ≡ string_bytes text.old ++ overfull_text track forward max) }
 {
     write!(text, "overfull {track} {forward} {max}\n")
 }
@@ -217,7 +222,8 @@ fn yes_name(yes: bool) -> &'static str
 }
 
 fn push_sums(text: &mut String, count: usize, forward: u64, back: u64) -> Result<(), NoMemory>
-    ensures { OnOk result (string_bytes text.new ≡ string_bytes text.old ++ sums_text count forward back) }
+    ensures { OnOk result (string_bytes text.new
+        ≡ string_bytes text.old ++ sums_text count forward back) }
 {
     write!(text, "view ranges {count} forward {forward} back {back}")
 }
@@ -278,7 +284,8 @@ fn push_range(text: &mut String, set: Choice, range: RangeView) -> Result<(), No
 }
 
 fn push_ranges(text: &mut String, set: Choice, ranges: &[RangeView]) -> Result<(), NoMemory>
-    ensures { OnOk result (string_bytes text.new ≡ string_bytes text.old ++ flat_map (range_text set) ranges.now) }
+    ensures { OnOk result (string_bytes text.new
+        ≡ string_bytes text.old ++ flat_map (range_text set) ranges.now) }
 {
     for range in ranges {
         push_range(text, set, *range)?;
@@ -287,7 +294,8 @@ fn push_ranges(text: &mut String, set: Choice, ranges: &[RangeView]) -> Result<(
 }
 
 pub fn push_view(text: &mut String, set: Choice, view: &CacheView) -> Result<(), NoMemory>
-    ensures { OnOk result (string_bytes text.new ≡ string_bytes text.old ++ view_text set view.now) }
+    ensures { OnOk result
+        (string_bytes text.new ≡ string_bytes text.old ++ view_text set view.now) }
 {
     push_sums(text, view.ranges.len(), view.forward, view.back)?;
     push_ends(text, yes_name(view.ending.is_some()))?;
@@ -297,7 +305,8 @@ pub fn push_view(text: &mut String, set: Choice, view: &CacheView) -> Result<(),
 // ---- refusals
 
 fn push_numbered(text: &mut String, why: &str, track: TrackNo) -> Result<(), NoMemory>
-    ensures { OnOk result (string_bytes text.new ≡ string_bytes text.old ++ numbered_text why.now track) }
+    ensures { OnOk result (string_bytes text.new
+        ≡ string_bytes text.old ++ numbered_text why.now track) }
 {
     write!(text, "refused {why} {track}\n")
 }

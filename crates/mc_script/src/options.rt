@@ -155,7 +155,8 @@ pub fn parse_run_line(words: &[String]) -> Option<RunLine>
     // The words are the line that is answered.
     ensures said { IfSome result (IsRunLine (map string_bytes words.now)) }
     // They are no other.
-    ensures only { (line : RunLine) → IsRunLine (map string_bytes words.now) line → result ≡ Some line }
+    ensures only { (line : RunLine) → IsRunLine (map string_bytes words.now) line
+        → result ≡ Some line }
     ensures within { IfSome result (IsWithin (length words.now)) }
     ensures limits { IfSome result (λ line. AreLimits line.limits) }
 {

@@ -30,7 +30,8 @@ pub fn parse_script(alloc: Global, bytes: &[u8]) -> Result<Script, ScriptError>
     // The acts, or the refusal, are what the text says, line by line and word by word.
     ensures said { Found result (Says bytes.now) }
     // It says nothing else.
-    ensures only { (said : Result (List (ℕ × Act)) (ℕ × ScriptWhy)) → Says bytes.now said → Gives result said }
+    ensures only { (said : Result (List (ℕ × Act)) (ℕ × ScriptWhy)) → Says bytes.now said
+        → Gives result said }
     // A job is taken and given in turn, with no plain `demux` and no `drain` between.
     ensures paired { IfOk result (IsPaired false) }
     // Counts are 1 to 1000000, and times at most 2^62 nanoseconds on either side of 0.

@@ -41,13 +41,15 @@ fn mark_name(sync: bool, key: bool) -> &'static str
 }
 
 fn push_damage(text: &mut String, at: u64, name: &str) -> Result<(), NoMemory>
-    ensures { OnOk result (string_bytes text.new ≡ string_bytes text.old ++ joined (codes "damaged " ∷ decimal at ∷ codes " " ∷ name.now ∷ codes "\n" ∷ [])) }
+    ensures { OnOk result (string_bytes text.new ≡ string_bytes text.old
+        ++ joined (codes "damaged " ∷ decimal at ∷ codes " " ∷ name.now ∷ codes "\n" ∷ [])) }
 {
     write!(text, "damaged {at} {name}\n")
 }
 
 fn push_cut(text: &mut String, at: u64) -> Result<(), NoMemory>
-    ensures { OnOk result (string_bytes text.new ≡ string_bytes text.old ++ joined (codes "cut " ∷ decimal at ∷ codes "\n" ∷ [])) }
+    ensures { OnOk result (string_bytes text.new
+        ≡ string_bytes text.old ++ joined (codes "cut " ∷ decimal at ∷ codes "\n" ∷ [])) }
 {
     write!(text, "cut {at}\n")
 }
@@ -69,7 +71,8 @@ fn push_track_end(text: &mut String, track: u64) -> Result<(), NoMemory>
 }
 
 fn push_place(text: &mut String, track: u64, pos: Pos, time: i64) -> Result<(), NoMemory>
-    ensures { OnOk result (string_bytes text.new ≡ string_bytes text.old ++ place_text track pos time) }
+    ensures { OnOk result (string_bytes text.new
+        ≡ string_bytes text.old ++ place_text track pos time) }
 {
     let block = pos.block;
     let lane = pos.lane;
@@ -77,19 +80,22 @@ fn push_place(text: &mut String, track: u64, pos: Pos, time: i64) -> Result<(), 
 }
 
 fn push_payload(text: &mut String, len: u64, sum: u32, mark: &str) -> Result<(), NoMemory>
-    ensures { OnOk result (string_bytes text.new ≡ string_bytes text.old ++ payload_text len sum mark.now) }
+    ensures { OnOk result (string_bytes text.new
+        ≡ string_bytes text.old ++ payload_text len sum mark.now) }
 {
     write!(text, " len {len} sum {sum} {mark}\n")
 }
 
 fn push_failed(text: &mut String, before: u64, after: u64) -> Result<(), NoMemory>
-    ensures { OnOk result (string_bytes text.new ≡ string_bytes text.old ++ failed_text before after) }
+    ensures { OnOk result (string_bytes text.new
+        ≡ string_bytes text.old ++ failed_text before after) }
 {
     write!(text, "failed {before} {after}\n")
 }
 
 fn push_fault(text: &mut String, track: u64, before: u64, after: u64) -> Result<(), NoMemory>
-    ensures { OnOk result (string_bytes text.new ≡ string_bytes text.old ++ fault_line track before after) }
+    ensures { OnOk result (string_bytes text.new
+        ≡ string_bytes text.old ++ fault_line track before after) }
 {
     write!(text, "fault {track} {before} {after}\n")
 }
@@ -121,7 +127,8 @@ fn push_gave(
     payload: (u64, u32),
     mark: &str,
 ) -> Result<(), NoMemory>
-    ensures { OnOk result (string_bytes text.new ≡ string_bytes text.old ++ (place_text track pos time ++ payload_text payload.0 payload.1 mark.now)) }
+    ensures { OnOk result (string_bytes text.new ≡ string_bytes text.old
+        ++ (place_text track pos time ++ payload_text payload.0 payload.1 mark.now)) }
 {
     let (len, sum) = payload;
     push_place(text, track, pos, time)?;
@@ -130,7 +137,8 @@ fn push_gave(
 
 // Adds the line of a reader's end.
 fn push_ended(text: &mut String, track: u64, ending: Ending) -> Result<(), NoMemory>
-    ensures { OnOk result (string_bytes text.new ≡ string_bytes text.old ++ (track_end_text track ++ ending_text ending)) }
+    ensures { OnOk result (string_bytes text.new
+        ≡ string_bytes text.old ++ (track_end_text track ++ ending_text ending)) }
 {
     push_track_end(text, track)?;
     push_ending(text, ending)

@@ -6,7 +6,7 @@ use Rattle.mc_lines.proofs.Playing.{given, given_grows}
 use Rattle.mc_lines.proofs.play.give_line.Goals as goal
 
 pub returns-in-Some-clause-line : goal.returns-in-Some-clause-line
-returns-in-Some-clause-line g c octets rd taken told s h =
+returns-in-Some-clause-line g c octets rd told s taken h =
     let is_out = subst (λ (x : Option Job). IsOut rd x taken (g.M.Machine.journal c.args.machine.now) (g.M.Machine.jobs c.args.machine.now)) c.in-Some.is h in
     rw c.settled.ensures (given rd c.in-Some.job taken _ _ _ _ _ _ c.bring.result is_out c.bring.ensures.brings)
 

@@ -20,7 +20,7 @@ loop-act-preserved g c =
           let now = inv.played octets rd told s in
           let here = told_still _ _ _ _ _ _ octets inv.files inv.opened inv.fixed told in (
             c.line.ensures.stands octets rd here now.0,
-            onward rd lines _ _ item.0 item.1 _ _ _ _ c.line.new.out _ _ now.1 split (c.in_ok-line.ensures.line octets rd now.1.taken here now.0 now.1.is_out),
+            onward rd lines _ _ item.0 item.1 _ _ _ _ c.line.new.out _ _ now.1 split (c.in_ok-line.ensures.line octets rd here now.0 now.1.taken now.1.is_out),
           );
       paired = paired_on _ _ item.0 item.1 c.loop-act.out c.line.new.out inv.paired split c.in_ok-line.ensures.job;
       awaited = c.line.ensures.awaited;

@@ -12,13 +12,13 @@ use Rattle.mc_journal.specs.Films.{Film}
 use Rattle.mc_filmed.specs.Marks.{mark_at}
 
 -- its packets, in file order
-abbrev pub packets_of : Plan → List Packet
-packets_of plan = (film_walk plan).0
+abbrev pub plan_packets : Plan → List Packet
+plan_packets plan = (film_walk plan).0
 
 -- its packets, its ending, the tracks whose blocks can be read, its parts from mark to mark, and the marks at its blocks
 abbrev pub film_for : Plan → Film
 film_for plan = record {
-  packets = packets_of plan;
+  packets = plan_packets plan;
   ending = (film_walk plan).1;
   known = knows plan.tracks;
   part = λ m. record { to = (part_at plan m).to; ending = (part_at plan m).ending };

@@ -11,7 +11,7 @@ use Rattle.mc_cursor.specs.Standing.{plan_for, mark_of, at_mark}
 use Rattle.mc_journal.specs.Films.{time_or, video_sync, audio_dir, film_syncs}
 use Rattle.mc_index.specs.declared.search.Around.{Around}
 use Rattle.mc_index.specs.Answers.{AreOfBlocks, AreFor, SeekStarts, SwitchStarts, SeekReads, SwitchReads, ReadsUntil, shows, needed_lead}
-use Rattle.mc_filmed.specs.Films.{packets_of}
+use Rattle.mc_filmed.specs.Films.{plan_packets}
 use Rattle.mc_index.specs.Searches.{IsNear, Rises, NearReads, chosen, reference, seek_of, switch_of}
 use Rattle.mc_index.proofs.Placing.{near-known, near-before_known, seek-placed, switch-placed, seek-for, switch-for}
 use Rattle.mc_index.proofs.Ruling.{listed-rises, video-rises, audio-rises, seek-time, seek-starts, switch-starts, near-last, reads-first, reads-then}
@@ -40,14 +40,14 @@ seek-tracks set dir t lead beside = seek-for set (chosen dir t lead) (chosen (au
 
 pub seek-first_reads : (plan : Plan) (set : Choice) (dir : Dir) (t : ℤ) (before now : ℕ) → NearReads plan set.video t before now → SeekReads plan set dir t before now
 seek-first_reads plan set dir t before now reads = λ regular known.
-    reads-first plan (λ ps. shows ps t set.video) (λ ps. shows ps (time_or t (video_sync (film_syncs (packets_of plan)) set dir t)) set.audio) before now
+    reads-first plan (λ ps. shows ps t set.video) (λ ps. shows ps (time_or t (video_sync (film_syncs (plan_packets plan)) set dir t)) set.audio) before now
     (reads (video-rises plan set regular known))
 
 pub seek-reads : (plan : Plan) (set : Choice) (dir : Dir) (t : ℤ) (lead : Around) (before between now : ℕ) → IsNear plan set.video t lead → NearReads plan set.video t before between
     → NearReads plan set.audio (reference dir t lead) between now → SeekReads plan set dir t before now
 seek-reads plan set dir t lead before between now near reads more = λ regular known.
     let rise = video-rises plan set regular known in
-    let time : ℤ = time_or t (video_sync (film_syncs (packets_of plan)) set dir t) in
+    let time : ℤ = time_or t (video_sync (film_syncs (plan_packets plan)) set dir t) in
     let next : ReadsUntil plan (λ ps. shows ps time set.audio) between now =
     subst (λ z. ReadsUntil plan (λ ps. shows ps z set.audio) between now) (seek-time plan set dir t lead near rise) (more (audio-rises plan set regular known)) in
     reads-then plan (λ ps. shows ps t set.video) (λ ps. shows ps time set.audio) before between now (reads rise) next

@@ -21,7 +21,7 @@ use Rattle.mc_index.specs.declared.entry.Point.{Point}
 use Rattle.mc_index.specs.declared.search.Around.{Around}
 use Rattle.mc_index.specs.Answers.{IsAround, IsStart, AreOfBlocks, AreFor}
 use Rattle.mc_index.specs.Fronts.{film_points}
-use Rattle.mc_filmed.specs.Films.{packets_of}
+use Rattle.mc_filmed.specs.Films.{plan_packets}
 use Rattle.mc_filmed.specs.Marks.{mark_at}
 use Rattle.mc_index.specs.Scans.{point_of}
 use Rattle.mc_index.specs.Searches.{IsNear, chosen, is_at, track_mark, least_mark, mark_or_opening, start_by, starts_by, sub_mark, seek_starts, switch_starts}
@@ -88,7 +88,7 @@ known-by plan None p e of = subst (IsKnown plan) (sym e) tt
 known-by plan (Some q) p e of = subst (IsKnown plan) (sym e) (film-placed plan q of)
 
 points-plan : (plan : Plan) (track : ℕ) → AllByRecursion (IsOf (film_walk plan).0) (film_points plan track)
-points-plan plan track = all-kept (IsOf (film_walk plan).0) (λ p. p.track == track && p.sync) (packets_of plan) (all-film (film_walk plan).0 (film_walk plan).0 (λ q h. h))
+points-plan plan track = all-kept (IsOf (film_walk plan).0) (λ p. p.track == track && p.sync) (plan_packets plan) (all-film (film_walk plan).0 (film_walk plan).0 (λ q h. h))
 
 pub before-known : (plan : Plan) (track : ℕ) (t : ℤ) (a : Around) → IsAround plan track t a → IsKnown plan a.before
 before-known plan track t a around =

@@ -16,7 +16,7 @@ use Rattle.mc_journal.proofs.Starting.{video_listed, audio_listed}
 use Rattle.mc_index.specs.declared.entry.Point.{Point}
 use Rattle.mc_index.specs.declared.search.Around.{Around}
 use Rattle.mc_index.specs.Answers.{AreStarts, ReadsUntil}
-use Rattle.mc_filmed.specs.Films.{packets_of}
+use Rattle.mc_filmed.specs.Films.{plan_packets}
 use Rattle.mc_index.specs.Fronts.{film_points}
 use Rattle.mc_tracks.specs.Selection.{knows}
 use Rattle.mc_index.specs.Scans.{point_of}
@@ -31,14 +31,14 @@ and-both : (a b : Bool) → (a && b) ≡ true → (a ≡ true) × (b ≡ true)
 and-both true b e = (refl, e)
 and-both false b e = absurd (cc e)
 
-pub listed-rises : (plan : Plan) (track : Option ℕ) → IsRegular (packets_of plan) (knows plan.tracks) → passes track (is_listed (knows plan.tracks)) ≡ true → Rises plan track
+pub listed-rises : (plan : Plan) (track : Option ℕ) → IsRegular (plan_packets plan) (knows plan.tracks) → passes track (is_listed (knows plan.tracks)) ≡ true → Rises plan track
 listed-rises plan None regular listed = tt
 listed-rises plan (Some k) regular listed = regular k listed
 
-pub video-rises : (plan : Plan) (set : Choice) → IsRegular (packets_of plan) (knows plan.tracks) → is_known (knows plan.tracks) set ≡ true → Rises plan set.video
+pub video-rises : (plan : Plan) (set : Choice) → IsRegular (plan_packets plan) (knows plan.tracks) → is_known (knows plan.tracks) set ≡ true → Rises plan set.video
 video-rises plan set regular known = listed-rises plan set.video regular (video_listed (knows plan.tracks) set known)
 
-pub audio-rises : (plan : Plan) (set : Choice) → IsRegular (packets_of plan) (knows plan.tracks) → is_known (knows plan.tracks) set ≡ true → Rises plan set.audio
+pub audio-rises : (plan : Plan) (set : Choice) → IsRegular (plan_packets plan) (knows plan.tracks) → is_known (knows plan.tracks) set ≡ true → Rises plan set.audio
 audio-rises plan set regular known = listed-rises plan set.audio regular (audio_listed (knows plan.tracks) set known)
 
 pub known-distinct : (known : Kind → ℕ → Bool) (set : Choice) → is_known known set ≡ true → is_distinct set ≡ true
@@ -114,53 +114,53 @@ points-start plan set V A distinct = record {
 }
 
 abbrev video_of : Plan → Choice → Dir → ℤ → Option Packet
-video_of plan set dir t = video_sync (film_syncs (packets_of plan)) set dir t
+video_of plan set dir t = video_sync (film_syncs (plan_packets plan)) set dir t
 
 pub seek-time : (plan : Plan) (set : Choice) (dir : Dir) (t : ℤ) (a : Around) → IsNear plan set.video t a → Rises plan set.video
     → point_time t (chosen dir t a) ≡ time_or t (video_of plan set dir t)
 seek-time plan set dir t a near rise = time-of plan t (video_of plan set dir t) (chosen dir t a) (near-chosen plan set.video dir t a near rise)
 
-pub seek-starts : (plan : Plan) (set : Choice) (dir : Dir) (t : ℤ) (a b : Around) → IsRegular (packets_of plan) (knows plan.tracks) → is_known (knows plan.tracks) set ≡ true
+pub seek-starts : (plan : Plan) (set : Choice) (dir : Dir) (t : ℤ) (a b : Around) → IsRegular (plan_packets plan) (knows plan.tracks) → is_known (knows plan.tracks) set ≡ true
     → IsNear plan set.video t a → IsNear plan set.audio (point_time t (chosen dir t a)) b
-    → AreStarts set (start_of (packets_of plan) set dir t) (seek_starts set (chosen dir t a) (chosen (audio_dir set.video dir) (point_time t (chosen dir t a)) b))
+    → AreStarts set (start_of (plan_packets plan) set dir t) (seek_starts set (chosen dir t a) (chosen (audio_dir set.video dir) (point_time t (chosen dir t a)) b))
 seek-starts plan set dir t a b regular known near beside =
     let V = video_of plan set dir t in
-    let A = audio_sync (film_syncs (packets_of plan)) set dir t in
+    let A = audio_sync (film_syncs (plan_packets plan)) set dir t in
     let rise = video-rises plan set regular known in
     let video : chosen dir t a ≡ point_in plan V = near-chosen plan set.video dir t a near rise in
     let time = seek-time plan set dir t a near rise in
     let audio : chosen (audio_dir set.video dir) (point_time t (chosen dir t a)) b ≡ point_in plan A =
     near-chosen plan set.audio (audio_dir set.video dir) (point_time t (chosen dir t a)) b beside (audio-rises plan set regular known)
     ∙ ap (λ time. option_map (point_of plan) (track_sync (film_points plan) (audio_dir set.video dir) time set.audio)) time in
-    let place : ℕ → ℕ = start_of (packets_of plan) set dir t in
+    let place : ℕ → ℕ = start_of (plan_packets plan) set dir t in
     let whole : AreStarts set place (seek_starts set (point_in plan V) (point_in plan A)) = points-start plan set V A (known-distinct (knows plan.tracks) set known) in
     let one : AreStarts set place (seek_starts set (chosen dir t a) (point_in plan A)) = subst (λ p. AreStarts set place (seek_starts set p (point_in plan A))) (sym video) whole in
     subst (λ p. AreStarts set place (seek_starts set (chosen dir t a) p)) (sym audio) one
 
 -- ---- the starts of a switch
 
-pub near-last : (plan : Plan) (lead : Option ℕ) (t : ℤ) (a : Around) → IsNear plan lead t a → Rises plan lead → a.before ≡ point_in plan (last_for (packets_of plan) t lead)
+pub near-last : (plan : Plan) (lead : Option ℕ) (t : ℤ) (a : Around) → IsNear plan lead t a → Rises plan lead → a.before ≡ point_in plan (last_for (plan_packets plan) t lead)
 near-last plan None t a near rise = ap (λ (x : Around). x.before) near
 near-last plan (Some track) t a near rise = near-before plan track t a near rise
 
 back-start : (plan : Plan) (added : Choice) (lead : Option ℕ) (at : ℤ) (a : Around) (o : Option ℕ) → ((k : ℕ) → o ≡ Some k → is_track added.sub k ≡ false) → IsNear plan o at a → Rises plan o
-    → start_by (track_mark o (chosen Back at a)) ≡ option_map (switch_start (packets_of plan) lead added at) o
+    → start_by (track_mark o (chosen Back at a)) ≡ option_map (switch_start (plan_packets plan) lead added at) o
 back-start plan added lead at a None other near rise = refl
 back-start plan added lead at a (Some k) other near rise =
     let off = other k refl in
     rw off (ap Some (ap (λ p. (point_mark p).pos) (near-chosen plan (Some k) Back at a near rise) ∙ block-of plan (sync_for Back at (film_points plan k))))
 
-lead-start : (plan : Plan) (added : Choice) (lead : Option ℕ) (at : ℤ) (p : Option Point) (o : Option ℕ) → added.sub ≡ o → p ≡ point_in plan (last_for (packets_of plan) at lead)
-    → start_by (track_mark o p) ≡ option_map (switch_start (packets_of plan) lead added at) o
+lead-start : (plan : Plan) (added : Choice) (lead : Option ℕ) (at : ℤ) (p : Option Point) (o : Option ℕ) → added.sub ≡ o → p ≡ point_in plan (last_for (plan_packets plan) at lead)
+    → start_by (track_mark o p) ≡ option_map (switch_start (plan_packets plan) lead added at) o
 lead-start plan added lead at p None e is = refl
 lead-start plan added lead at p (Some k) e is =
     let mine : is_track added.sub k ≡ true = ap (λ (x : Option ℕ). is_track x k) e ∙ own k in
-    rw mine (ap Some (ap (λ q. (point_mark q).pos) is ∙ block-of plan (last_for (packets_of plan) at lead)))
+    rw mine (ap Some (ap (λ q. (point_mark q).pos) is ∙ block-of plan (last_for (plan_packets plan) at lead)))
 
-pub switch-starts : (plan : Plan) (added : Choice) (lead : Option ℕ) (at : ℤ) (a b : Around) (p : Option Point) → IsRegular (packets_of plan) (knows plan.tracks)
+pub switch-starts : (plan : Plan) (added : Choice) (lead : Option ℕ) (at : ℤ) (a b : Around) (p : Option Point) → IsRegular (plan_packets plan) (knows plan.tracks)
     → is_known (knows plan.tracks) added ≡ true → IsNear plan added.video at a → IsNear plan added.audio at b
-    → ((k : ℕ) → added.sub ≡ Some k → p ≡ point_in plan (last_for (packets_of plan) at lead))
-    → AreStarts added (switch_start (packets_of plan) lead added at) (switch_starts added (chosen Back at a) (chosen Back at b) p)
+    → ((k : ℕ) → added.sub ≡ Some k → p ≡ point_in plan (last_for (plan_packets plan) at lead))
+    → AreStarts added (switch_start (plan_packets plan) lead added at) (switch_starts added (chosen Back at a) (chosen Back at b) p)
 switch-starts plan added lead at a b p regular known near beside before =
     let more = (and-both (is_other added.video added.audio) _ (known-distinct (knows plan.tracks) added known)).1 in
     let parts = and-both (is_other added.video added.sub) (is_other added.audio added.sub) more in
@@ -170,7 +170,7 @@ switch-starts plan added lead at a b p regular known near beside before =
       sub = sub-by added.sub refl;
     }
   where
-    sub-by : (o : Option ℕ) → added.sub ≡ o → start_by (track_mark o p) ≡ option_map (switch_start (packets_of plan) lead added at) o
+    sub-by : (o : Option ℕ) → added.sub ≡ o → start_by (track_mark o p) ≡ option_map (switch_start (plan_packets plan) lead added at) o
     sub-by None e = refl
     sub-by (Some k) e = lead-start plan added lead at p (Some k) e (before k e)
 

@@ -14,7 +14,7 @@ use Rattle.mc_journal.specs.Used.{place_of_starts}
 use Rattle.mc_index.specs.declared.entry.Point.{Point}
 use Rattle.mc_index.specs.declared.search.Around.{Around}
 use Rattle.mc_index.specs.Fronts.{Front, film_points, any_past}
-use Rattle.mc_filmed.specs.Films.{packets_of}
+use Rattle.mc_filmed.specs.Films.{plan_packets}
 use Rattle.mc_tracks.specs.Selection.{knows}
 use Rattle.mc_filmed.specs.Marks.{mark_at}
 use Rattle.mc_index.specs.Scans.{point_of}
@@ -64,11 +64,11 @@ pub record AreStarts (set : Choice) (place : ℕ → ℕ) (s : Starts) : Type 0 
 
 -- on a regular film, for tracks that it lists
 abbrev pub OnRegular : Plan → Choice → Type 0 → Type 0
-OnRegular plan set fact = IsRegular (packets_of plan) (knows plan.tracks) → is_known (knows plan.tracks) set ≡ true → fact
+OnRegular plan set fact = IsRegular (plan_packets plan) (knows plan.tracks) → is_known (knows plan.tracks) set ≡ true → fact
 
 -- those of a seek to t, by the rule over the whole film
 abbrev pub SeekStarts : Plan → Choice → Dir → ℤ → Starts → Type 0
-SeekStarts plan set dir t s = OnRegular plan set (AreStarts set (start_of (packets_of plan) set dir t) s)
+SeekStarts plan set dir t s = OnRegular plan set (AreStarts set (start_of (plan_packets plan) set dir t) s)
 
 -- a lead is none or a track that the film lists as video or audio
 abbrev pub is_lead : Plan → Option ℕ → Bool
@@ -77,7 +77,7 @@ is_lead plan lead = passes lead (is_listed (knows plan.tracks))
 -- those of a switch at a time
 abbrev pub SwitchStarts : Plan → Choice → Option ℕ → ℤ → Starts → Type 0
 SwitchStarts plan added lead at s =
-    OnRegular plan added (is_lead plan lead ≡ true → AreStarts added (switch_start (packets_of plan) lead added at) s)
+    OnRegular plan added (is_lead plan lead ≡ true → AreStarts added (switch_start (plan_packets plan) lead added at) s)
 
 -- ---- how far is read
 
@@ -93,7 +93,7 @@ ReadsUntil plan test before now = (n : ℕ) (m : Mark) (packets : List Packet) �
 -- a seek needs the video track past its target, and the audio track past its own reference time
 abbrev pub seek_shown : Plan → Choice → Dir → ℤ → List Packet → Bool
 seek_shown plan set dir t packets =
-    shows packets t set.video && shows packets (time_or t (video_sync (film_syncs (packets_of plan)) set dir t)) set.audio
+    shows packets t set.video && shows packets (time_or t (video_sync (film_syncs (plan_packets plan)) set dir t)) set.audio
 
 abbrev pub SeekReads : Plan → Choice → Dir → ℤ → ℕ → ℕ → Type 0
 SeekReads plan set dir t before now = OnRegular plan set (ReadsUntil plan (seek_shown plan set dir t) before now)

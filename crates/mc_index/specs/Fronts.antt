@@ -10,7 +10,7 @@ use Rattle.mc_tracks.specs.TrackList.{is_of}
 use Rattle.mc_walk.specs.declared.plan.Plan.{Plan}
 use Rattle.mc_walk.specs.Parts.{opening_mark, part_at}
 use Rattle.mc_journal.specs.Films.{syncs}
-use Rattle.mc_filmed.specs.Films.{packets_of}
+use Rattle.mc_filmed.specs.Films.{plan_packets}
 
 -- a film read up to a mark: so many block elements stand before it, with these packets
 pub data Front (plan : Plan) : ℕ → Mark → List Packet → Type 0 where
@@ -22,7 +22,7 @@ pub data Front (plan : Plan) : ℕ → Mark → List Packet → Type 0 where
 
 -- the film's sync points of a track
 abbrev pub film_points : Plan → ℕ → List Packet
-film_points plan track = syncs track (packets_of plan)
+film_points plan track = syncs track (plan_packets plan)
 
 abbrev pub is_readable : Kind → Track → Bool
 is_readable kind t = is_of kind t.kind && not t.encoded

@@ -11,7 +11,7 @@ use Rattle.mc_outside.specs.declared.sink.SinkError.TheVariants as faults
 use Rattle.mc_tracks.specs.TrackList.{default_choice_of}
 use Rattle.mc_walk.specs.declared.plan.Plan.{Plan}
 use Rattle.mc_walk.specs.Opening.{opened_film}
-use Rattle.mc_filmed.specs.Films.{packets_of, film_for, choice_for}
+use Rattle.mc_filmed.specs.Films.{plan_packets, film_for, choice_for}
 use Rattle.mc_tracks.specs.Selection.{knows}
 use Rattle.mc_journal.specs.declared.record.DemuxRecord.{DemuxRecord}
 use Rattle.mc_journal.specs.declared.record.DemuxRecord.TheVariants.{Opened, Failed, Starved}
@@ -41,8 +41,8 @@ use Rattle.mc_play.specs.Asked.{FileIs, ScriptIs, Stopped, name_at}
 pub record Plays (plan : Plan) (limits : Limits) (lines : List (ℕ × Act)) (halt : Result Unit Halt) (hd : List DemuxRecord) : Type 0 where
   pub runs : Runs (readings (film_for plan) limits (choice_for plan.tracks)) lines (Opened 0 (default_choice_of plan.tracks) ∷ []) hd halt
   pub used : IsUsed (film_for plan) limits (reverse hd)
-  pub legal : IsRegular (packets_of plan) (knows plan.tracks) → IsLegal (packets_of plan) (film_for plan).ending (reverse hd)
-  pub gapless : IsGapless (packets_of plan) (film_for plan).ending (reverse hd)
+  pub legal : IsRegular (plan_packets plan) (knows plan.tracks) → IsLegal (plan_packets plan) (film_for plan).ending (reverse hd)
+  pub gapless : IsGapless (plan_packets plan) (film_for plan).ending (reverse hd)
 
 -- the told film's; where none is told, any
 abbrev pub PlaysFilm : Option Files → List (List ℕ) → RunLine → List (ℕ × Act) → Result Unit Halt → List DemuxRecord → Type 0

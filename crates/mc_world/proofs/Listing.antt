@@ -35,9 +35,8 @@ use Rattle.mc_walk.specs.Blocks.{◌>>=◌, faulted, some_body, body_in, known_t
 use Rattle.mc_walk.specs.Walk.{stands_at, stamped, blocked, time_of, passed, moved, headed, step_at, steps, walk, after, film_walk, Rest}
 use Rattle.mc_walk.proofs.Framing.{are-its-frames}
 use Rattle.mc_outside.specs.Shelf.{AreBytes}
-use Rattle.mc_journal.specs.Told.{told}
 use Rattle.mc_journal.specs.Films.{IsFilm, IsRising, HasLanes, at, rank}
-use Rattle.mc_filmed.specs.Films.{packets_of}
+use Rattle.mc_filmed.specs.Films.{plan_packets}
 use Rattle.mc_index.specs.Scans.{IsPlan}
 
 -- ---- octets
@@ -110,7 +109,7 @@ frames-few flags rest all = elim (cases_Bool (is_laced flags)) [
 -- ---- the lanes of a block's packets
 
 abbrev IsLaned : Packet → Type 0
-IsLaned p = HasLanes (told p)
+IsLaned p = HasLanes (p)
 
 abbrev AreLaned : List Packet → Type 0
 AreLaned ps = AllByRecursion IsLaned ps
@@ -272,28 +271,28 @@ walk-laned (suc n) plan place level all =
 
 -- ---- the list
 
-told-laned : (ps : List Packet) → AreLaned ps → AllByRecursion HasLanes ps
-told-laned [] laned = tt
-told-laned (p ∷ ps) laned = (laned.0, told-laned ps laned.1)
+lanes-fit : (ps : List Packet) → AreLaned ps → AllByRecursion HasLanes ps
+lanes-fit [] laned = tt
+lanes-fit (p ∷ ps) laned = (laned.0, lanes-fit ps laned.1)
 
-rank-below : (p q : Packet) → p.pos.lane < 65536 → StandsBefore p q → at (told p) < at (told q)
+rank-below : (p q : Packet) → p.pos.lane < 65536 → StandsBefore p q → at (p) < at (q)
 unfolding rank
 rank-below p q small (inl less) = omega arith
 rank-below p q small (inr same) = let block = same.0 in let lane = same.1 in omega (arith, block, lane)
 
-all-below : (p : Packet) (ps : List Packet) → p.pos.lane < 65536 → AllByRecursion (StandsBefore p) ps → AllByRecursion (λ q. at (told p) < at q) ps
+all-below : (p : Packet) (ps : List Packet) → p.pos.lane < 65536 → AllByRecursion (StandsBefore p) ps → AllByRecursion (λ q. at (p) < at q) ps
 all-below p [] small before = tt
 all-below p (q ∷ qs) small before = (rank-below p q small before.0, all-below p qs small before.1)
 
-told-rising : (ps : List Packet) → InOrder ps → AreLaned ps → IsRising ps
-told-rising [] order laned = tt
-told-rising (p ∷ ps) order laned = (all-below p ps laned.0.0 order.0, told-rising ps order.1 laned.1)
+places-rise : (ps : List Packet) → InOrder ps → AreLaned ps → IsRising ps
+places-rise [] order laned = tt
+places-rise (p ∷ ps) order laned = (all-below p ps laned.0.0 order.0, places-rise ps order.1 laned.1)
 
 -- what stands in a file is a film's list
-pub is-film : (plan : Plan) → IsPlan plan → AreBytes plan.octets → IsFilm (packets_of plan)
+pub is-film : (plan : Plan) → IsPlan plan → AreBytes plan.octets → IsFilm (plan_packets plan)
 is-film plan is all =
     let laned = walk-laned (steps plan) plan plan.opening levels.Segment all in
     record {
-      rising = told-rising (film_walk plan).0 (are-its-frames plan is.1).once laned;
-      lanes = told-laned (film_walk plan).0 laned;
+      rising = places-rise (film_walk plan).0 (are-its-frames plan is.1).once laned;
+      lanes = lanes-fit (film_walk plan).0 laned;
     }

@@ -24,28 +24,22 @@ use Rattle.mc_journal.specs.Films.{is_listed}
 use Rattle.mc_cursor.specs.declared.cursor.Cursor.{Cursor}
 use Rattle.mc_cursor.specs.Standing.{StandsFor as CursorStandsFor, plan_for}
 use Rattle.mc_index.specs.declared.index.Index.{Index}
-use Rattle.mc_index.specs.Fronts.{is_readable_as}
-use Rattle.mc_tracks.specs.Selection.{knows}
+use Rattle.mc_tracks.specs.Selection.{is_listed_as, is_coded, knows}
 use Rattle.mc_index.specs.Scans.{IsIndexOf, IsPlan}
 use Rattle.mc_range.specs.Range.{RangeState, IsBegun}
 use Rattle.mc_cache.specs.Cache.{in_front}
 use Rattle.mc_demux.specs.State.{DemuxState}
 use Rattle.mc_demux.specs.Film.{StandsFor}
 use Rattle.mc_demux.specs.Opening.{HasTracks, IsOpened, first_starts}
-use Rattle.mc_demux.specs.Selecting.{is_listed_as, is_coded, knows}
 use Rattle.mc_filmed.specs.Films.{film_for}
 use Rattle.mc_world.specs.Driving.{StandTogether}
 use Rattle.mc_world.proofs.Listing.{is-film}
 
 -- ---- the film's tracks
 
-known-by : (kind : Kind) (t : Option Track) → is_readable_as kind t ≡ (is_listed_as kind t && not (is_coded t))
-known-by kind None = refl
-known-by kind (Some t) = refl
-
 -- the film of a plan has the plan's tracks
 pub has-tracks : (plan : Plan) → IsPlan plan → AreBytes plan.octets → HasTracks plan.tracks (film_for plan)
-has-tracks plan is all = record { film_is = is-film plan is all; known = λ kind track. known-by kind (numbered track plan.tracks) }
+has-tracks plan is all = record { film_is = is-film plan is all; known = λ kind track. refl }
 
 -- ---- the first choice of tracks
 

@@ -16,11 +16,10 @@ use Rattle.mc_walk.specs.Parts.{mark, Part, part_at, place_of, level_of, joined_
 use Rattle.mc_walk.specs.Parts.IsMark.{at_end, at_opening, at_block}
 use Rattle.mc_walk.proofs.Enough.{part-to, EndsOnward}
 use Rattle.mc_walk.proofs.Joining.{place-of, level-of, mark-lies, comes-within, walk-by_part, from_mark}
-use Rattle.mc_journal.specs.Told.{Told, told}
 use Rattle.mc_journal.specs.Films.{IsFilm, HasLanes, at, rank, first_lane}
 use Rattle.mc_journal.specs.Ranges.{within}
 use Rattle.mc_journal.proofs.Within.{in_below, within-past, within-whole}
-use Rattle.mc_filmed.specs.Films.{packets_of, film_for}
+use Rattle.mc_filmed.specs.Films.{plan_packets, film_for}
 use Rattle.mc_index.specs.Scans.{IsPlan}
 use Rattle.mc_index.proofs.Fronts.{mark-under}
 use Rattle.mc_demux.specs.Film.{IsPartOf}
@@ -65,31 +64,31 @@ falls-at plan m is (at_block b) =
 
 -- ---- places of blocks as numbers
 
-block-low : (from : ℕ) (p : Told) → HasLanes p → p.pos.block < from → at p < first_lane from
+block-low : (from : ℕ) (p : Packet) → HasLanes p → p.pos.block < from → at p < first_lane from
 unfolding rank first_lane
 block-low from p lanes less = let h = lanes.0 in omega arith
 
-block-high : (to : ℕ) (p : Told) → to ≤ p.pos.block → first_lane to ≤ at p
+block-high : (to : ℕ) (p : Packet) → to ≤ p.pos.block → first_lane to ≤ at p
 unfolding rank first_lane
 block-high to p less = omega arith
 
-lanes-front : (xs ys : List Told) → AllByRecursion HasLanes (xs ++ ys) → AllByRecursion HasLanes xs
+lanes-front : (xs ys : List Packet) → AllByRecursion HasLanes (xs ++ ys) → AllByRecursion HasLanes xs
 lanes-front [] ys h = tt
 lanes-front (x ∷ xs) ys h = (h.0, lanes-front xs ys h.1)
 
-lanes-back : (xs ys : List Told) → AllByRecursion HasLanes (xs ++ ys) → AllByRecursion HasLanes ys
+lanes-back : (xs ys : List Packet) → AllByRecursion HasLanes (xs ++ ys) → AllByRecursion HasLanes ys
 lanes-back [] ys h = h
 lanes-back (x ∷ xs) ys h = lanes-back xs ys h.1
 
-told-low : (from : ℕ) (ps : List Packet) → AllByRecursion HasLanes ps → AllByRecursion (IsBefore from) ps → AllByRecursion (λ p. at p < first_lane from) ps
-told-low from [] lanes h = tt
-told-low from (p ∷ ps) lanes h = (block-low from (told p) lanes.0 h.0, told-low from ps lanes.1 h.1)
+places-low : (from : ℕ) (ps : List Packet) → AllByRecursion HasLanes ps → AllByRecursion (IsBefore from) ps → AllByRecursion (λ p. at p < first_lane from) ps
+places-low from [] lanes h = tt
+places-low from (p ∷ ps) lanes h = (block-low from (p) lanes.0 h.0, places-low from ps lanes.1 h.1)
 
-told-high : (to : ℕ) (ps : List Packet) → AllByRecursion (IsBehind to) ps → AllByRecursion (λ p. first_lane to ≤ at p) ps
-told-high to [] h = tt
-told-high to (p ∷ ps) h = (block-high to (told p) h.0, told-high to ps h.1)
+places-high : (to : ℕ) (ps : List Packet) → AllByRecursion (IsBehind to) ps → AllByRecursion (λ p. first_lane to ≤ at p) ps
+places-high to [] h = tt
+places-high to (p ∷ ps) h = (block-high to (p) h.0, places-high to ps h.1)
 
-within-below : (from to : ℕ) (ps : List Told) → AllByRecursion (λ p. at p < from) ps → within from to ps ≡ []
+within-below : (from to : ℕ) (ps : List Packet) → AllByRecursion (λ p. at p < from) ps → within from to ps ≡ []
 within-below from to [] h = refl
 within-below from to (p ∷ ps) h =
     let e = within-below from to ps h.1 in
@@ -98,39 +97,33 @@ within-below from to (p ∷ ps) h =
 -- ---- the packets of a part
 
 -- three runs of packets, of which the middle one lies between two places
-within-middle : (from to : ℕ) (xs ys zs : List Told) → AllByRecursion (λ p. at p < from) xs → AllByRecursion (λ p. from ≤ at p) ys → AllByRecursion (λ p. at p < to) ys
+within-middle : (from to : ℕ) (xs ys zs : List Packet) → AllByRecursion (λ p. at p < from) xs → AllByRecursion (λ p. from ≤ at p) ys → AllByRecursion (λ p. at p < to) ys
     → AllByRecursion (λ p. to ≤ at p) zs → within from to (xs ++ (ys ++ zs)) ≡ ys
 within-middle from to xs ys zs low behind before high =
-    let test = λ (p : Told). nat_le from (at p) && nat_lt (at p) to in
+    let test = λ (p : Packet). nat_le from (at p) && nat_lt (at p) to in
     filter-append test xs (ys ++ zs) ∙ ap (λ l. l ++ within from to (ys ++ zs)) (within-below from to xs low)
     ∙ filter-append test ys zs ∙ ap (λ l. l ++ within from to zs) (within-whole from to ys behind before)
     ∙ ap (λ l. ys ++ l) (within-past from to zs high) ∙ append-nil ys
 
-told-three : (xs ys zs : List Packet) → (xs ++ (ys ++ zs)) ≡ xs ++ (ys ++ zs)
-told-three xs ys zs = map-append told xs (ys ++ zs) ∙ ap (λ l. xs ++ l) (map-append told ys zs)
-
-middle-told : (from to : ℕ) (xs ys zs : List Packet) → AllByRecursion HasLanes (xs ++ (ys ++ zs)) → AllByRecursion (IsBefore from) xs
+middle-within : (from to : ℕ) (xs ys zs : List Packet) → AllByRecursion HasLanes (xs ++ (ys ++ zs)) → AllByRecursion (IsBefore from) xs
     → AllByRecursion (IsBehind from) ys → AllByRecursion (IsBefore to) ys → AllByRecursion (IsBehind to) zs
     → ys ≡ within (first_lane from) (first_lane to) (xs ++ (ys ++ zs))
-middle-told from to xs ys zs lanes low behind before high =
-    let three = told-three xs ys zs in
-    let all = subst (AllByRecursion HasLanes) three lanes in
-    let of_ys = lanes-front ys zs (lanes-back xs (ys ++ zs) all) in
-    sym (ap (within (first_lane from) (first_lane to)) three
-    ∙ within-middle (first_lane from) (first_lane to) xs ys zs (told-low from xs (lanes-front xs (ys ++ zs) all) low)
-    (told-high from ys behind) (told-low to ys of_ys before) (told-high to zs high))
+middle-within from to xs ys zs lanes low behind before high =
+    let of_ys = lanes-front ys zs (lanes-back xs (ys ++ zs) lanes) in
+    sym (within-middle (first_lane from) (first_lane to) xs ys zs (places-low from xs (lanes-front xs (ys ++ zs) lanes) low)
+    (places-high from ys behind) (places-low to ys of_ys before) (places-high to zs high))
 
 -- ---- the ending of a part
 
 ends-walk : (p : Part) (ending : Ending) (on : Mark → Rest) → p.ending ≡ Some ending → joined_after p on ≡ (p.packets, ending)
 ends-walk p ending on ends = rw ends refl
 
-told-before : (to : ℕ) (ps : List Packet) → AllByRecursion (IsBefore to) ps → AllByRecursion (λ (p : Told). p.pos.block < to) ps
-told-before to [] h = tt
-told-before to (p ∷ ps) h = (h.0, told-before to ps h.1)
+blocks-before : (to : ℕ) (ps : List Packet) → AllByRecursion (IsBefore to) ps → AllByRecursion (λ (p : Packet). p.pos.block < to) ps
+blocks-before to [] h = tt
+blocks-before to (p ∷ ps) h = (h.0, blocks-before to ps h.1)
 
 abbrev EndsAt : Plan → ℕ → Ending → Type 0
-EndsAt plan to e = (e ≡ (film_walk plan).1) × AllByRecursion (λ (p : Told). p.pos.block < to) (packets_of plan)
+EndsAt plan to e = (e ≡ (film_walk plan).1) × AllByRecursion (λ (p : Packet). p.pos.block < to) (plan_packets plan)
 
 -- where the part has an ending it is the film's, and all packets stand before the part's end
 ends-by : (plan : Plan) (m : Mark) → IsPlan plan → IsMark plan m → FallsAt plan m → (ending : Option Ending) → (part_at plan m).ending ≡ ending → IfSome ending (EndsAt plan (part_at plan m).to.pos)
@@ -145,10 +138,10 @@ ends-by plan m is mark falls (Some e) ends =
     let whole = falls.joined ∙ ap (in_front falls.front) last in
     let packets : (film_walk plan).0 ≡ falls.front ++ p.packets = ap (λ (r : Rest). r.0) whole in
     let all = all-append (IsBefore p.to.pos) falls.front p.packets (before-later m.pos p.to.pos falls.front (let h = onward.0 in omega arith) falls.before) inside.before in
-    (sym (ap (λ (r : Rest). r.1) whole), subst (λ ps. AllByRecursion (λ (q : Told). q.pos.block < p.to.pos) ps) (sym packets) (told-before p.to.pos (falls.front ++ p.packets) all))
+    (sym (ap (λ (r : Rest). r.1) whole), subst (λ ps. AllByRecursion (λ (q : Packet). q.pos.block < p.to.pos) ps) (sym packets) (blocks-before p.to.pos (falls.front ++ p.packets) all))
 
 -- the chunk at a mark of a film is a part of it
-pub is-part : (plan : Plan) (m : Mark) → IsPlan plan → IsFilm (packets_of plan) → IsMark plan m → IsPartOf (film_for plan) (chunk_at plan m)
+pub is-part : (plan : Plan) (m : Mark) → IsPlan plan → IsFilm (plan_packets plan) → IsMark plan m → IsPartOf (film_for plan) (chunk_at plan m)
 is-part plan m is film mark =
     let p = part_at plan m in
     let lies = mark-lies plan m is.1 mark in
@@ -164,7 +157,7 @@ is-part plan m is film mark =
       part = refl;
       onward = let h = onward.0 in omega arith;
       packets =
-          middle-told m.pos p.to.pos falls.front p.packets rest.0 lanes falls.before (behind-earlier m.pos (place_of plan m) p.packets under inside.behind) inside.before
+          middle-within m.pos p.to.pos falls.front p.packets rest.0 lanes falls.before (behind-earlier m.pos (place_of plan m) p.packets under inside.behind) inside.before
           (walk-behind (steps plan) plan p.to.pos p.to.level onward.1)
           ∙ ap (λ ps. within (first_lane m.pos) (first_lane p.to.pos) ps) (sym packets);
       ends = ends-by plan m is mark falls p.ending refl;

@@ -11,7 +11,7 @@ use Rattle.mc_journal.specs.Choices.{OnTrack}
 use Rattle.mc_journal.specs.Films.{start_of, switch_start}
 use Rattle.mc_journal.specs.Allowed.{EachStart}
 use Rattle.mc_index.specs.Answers.{AreFor, AreOfBlocks, AreStarts, SeekStarts, SwitchStarts, is_lead}
-use Rattle.mc_filmed.specs.Films.{packets_of, film_for}
+use Rattle.mc_filmed.specs.Films.{plan_packets, film_for}
 use Rattle.mc_tracks.specs.Selection.{knows}
 use Rattle.mc_demux.specs.Film.{AreFilmStarts}
 use Rattle.mc_demux.specs.Outcomes.{AreStartsFor}
@@ -27,11 +27,11 @@ each-start : (set : Choice) (place : ℕ → ℕ) (s : Starts) → AreStarts set
 each-start set place s h = (on-start set.video s.video place h.video, on-start set.audio s.audio place h.audio, on-start set.sub s.sub place h.sub)
 
 pub of-seek : (plan : Plan) (set : Choice) (dir : Dir) (t : ℤ) (s : Starts) → is_known (knows plan.tracks) set ≡ true → AreOfBlocks plan s → SeekStarts plan set dir t s
-    → AreFilmStarts (film_for plan) s set (start_of (packets_of plan) set dir t)
+    → AreFilmStarts (film_for plan) s set (start_of (plan_packets plan) set dir t)
 of-seek plan set dir t s known blocks starts =
-    record { exact = λ regular. each-start set (start_of (packets_of plan) set dir t) s (starts regular known); marked = λ regular. blocks.marked }
+    record { exact = λ regular. each-start set (start_of (plan_packets plan) set dir t) s (starts regular known); marked = λ regular. blocks.marked }
 
 pub of-switch : (plan : Plan) (added : Choice) (lead : Option ℕ) (at : ℤ) (s : Starts) → is_known (knows plan.tracks) added ≡ true → is_lead plan lead ≡ true → AreOfBlocks plan s
-    → SwitchStarts plan added lead at s → AreFilmStarts (film_for plan) s added (switch_start (packets_of plan) lead added at)
+    → SwitchStarts plan added lead at s → AreFilmStarts (film_for plan) s added (switch_start (plan_packets plan) lead added at)
 of-switch plan added lead at s known listed blocks starts =
-    record { exact = λ regular. each-start added (switch_start (packets_of plan) lead added at) s (starts regular known listed); marked = λ regular. blocks.marked }
+    record { exact = λ regular. each-start added (switch_start (plan_packets plan) lead added at) s (starts regular known listed); marked = λ regular. blocks.marked }

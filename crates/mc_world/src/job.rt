@@ -1,8 +1,7 @@
 //! A job of the demuxer is done by the cursor or the index, and what it came to is brought.
 ghost use Rattle.std.specs.Prelude.{◌≡◌, ◌≤◌, ℕ, List, Some};
-ghost use Rattle.mc_outside.specs.Shelf.{content};
-ghost use Rattle.mc_cursor.specs.Causes.{Keeps};
-ghost use Rattle.mc_cursor.specs.Reads.{Told};
+ghost use Rattle.mc_cursor.specs.Causes.{OnlyReads};
+ghost use Rattle.mc_cursor.specs.Reads.{InFile};
 ghost use Rattle.mc_cursor.specs.Standing.{file_of, mark_of, at_mark};
 ghost use Rattle.mc_demux.specs.Demuxers.{IsDemux};
 ghost use Rattle.mc_lines.specs.Calls.{number_of};
@@ -32,11 +31,13 @@ impl Driver {
         requires number { number_of job ≡ Some no }
         requires part { IsPartJob job }
         requires demux { IsDemux self.old.demux }
-        ensures value { Does (S.faults shelf.old) (S.faults shelf.new) no self.old.demux result self.new.demux }
-        ensures stands { Told (content (S.files shelf.old) (S.opened shelf.old) (file_of self.old.cursor)) (λ octets. Drives octets self.old → Drives octets self.new) }
+        ensures value { Does (S.faults shelf.old)
+            (S.faults shelf.new) no self.old.demux result self.new.demux }
+        ensures stands { InFile S.files S.opened shelf.old (file_of self.old.cursor)
+            (λ octets. Drives octets self.old → Drives octets self.new) }
         ensures moves { self.new.cursor ≡ at_mark self.old.cursor (mark_of self.new.cursor) }
         ensures later { S.faults shelf.old ≤ S.faults shelf.new }
-        ensures kept { Keeps (S.files shelf.old) (S.files shelf.new) (S.opened shelf.old) (S.opened shelf.new) (S.reach shelf.old) (S.reach shelf.new) }
+        ensures kept { OnlyReads S.files S.opened S.reach shelf.old shelf.new }
         ensures demux { IsDemux self.new.demux }
     {
         match self.demux.mark() {
@@ -58,11 +59,13 @@ impl Driver {
         requires kept { self.old.demux.kept ≡ Some job }
         requires number { number_of job ≡ Some no }
         requires demux { IsDemux self.old.demux }
-        ensures value { Does (S.faults shelf.old) (S.faults shelf.new) no self.old.demux result self.new.demux }
-        ensures stands { Told (content (S.files shelf.old) (S.opened shelf.old) (file_of self.old.cursor)) (λ octets. Drives octets self.old → Drives octets self.new) }
+        ensures value { Does (S.faults shelf.old)
+            (S.faults shelf.new) no self.old.demux result self.new.demux }
+        ensures stands { InFile S.files S.opened shelf.old (file_of self.old.cursor)
+            (λ octets. Drives octets self.old → Drives octets self.new) }
         ensures moves { self.new.cursor ≡ at_mark self.old.cursor (mark_of self.new.cursor) }
         ensures later { S.faults shelf.old ≤ S.faults shelf.new }
-        ensures kept { Keeps (S.files shelf.old) (S.files shelf.new) (S.opened shelf.old) (S.opened shelf.new) (S.reach shelf.old) (S.reach shelf.new) }
+        ensures kept { OnlyReads S.files S.opened S.reach shelf.old shelf.new }
         ensures demux { IsDemux self.new.demux }
     {
         match job {

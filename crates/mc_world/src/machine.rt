@@ -40,6 +40,7 @@ impl Machine for Driver {
         let Some(no) = number_of(job) else {
             return Ok(Taken::Stale { asked: 0, now: 0 });
         };
+        // A job that is not the kept one bears an old number, so that this is answered as stale.
         if self.demux.kept() != Some(job) {
             return Ok(self.demux.starved(no));
         }

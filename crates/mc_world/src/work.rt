@@ -1,15 +1,13 @@
 //! What the jobs of a demuxer come to: the cursor and the index do them over a shelf.
 ghost use Rattle.std.specs.Prelude.{◌≡◌, ◌≤◌, ◌^◌, ◌<◌, List, ℕ, IsErrOf};
 ghost use Rattle.mc_outside.specs.Causes.{Rose};
-ghost use Rattle.mc_outside.specs.Shelf.{content};
 ghost use Rattle.mc_packet.specs.declared.choice.Choice.{Choice};
 ghost use Rattle.mc_packet.specs.declared.walk.Mark.{Mark};
 ghost use Rattle.mc_walk.specs.Parts.{IsMark};
 ghost use Rattle.mc_cursor.specs.declared.error.CursorError.TheVariants.{ReadFault};
-ghost use Rattle.mc_cursor.specs.Causes.{Keeps};
-ghost use Rattle.mc_cursor.specs.Reads.{Told};
-ghost use Rattle.mc_cursor.specs.Standing.{StandsFor, plan_for, file_of, mark_of, at_mark};
-ghost use Rattle.mc_index.specs.Scans.{OfFilm, StandFor};
+ghost use Rattle.mc_cursor.specs.Causes.{OnlyReads};
+ghost use Rattle.mc_cursor.specs.Standing.{OnFilm, StandsFor, plan_for, mark_of, at_mark};
+ghost use Rattle.mc_index.specs.Scans.{OnPlan, StayOn};
 ghost use Rattle.mc_journal.specs.Films.{Film};
 ghost use Rattle.mc_demux.specs.Demuxers.{IsDemux};
 ghost use Rattle.mc_demux.specs.Film.{StandsFor as DemuxStandsFor, failure_record};
@@ -49,12 +47,13 @@ pub(crate) fn find_starts<S: Shelf>(
     dir: Dir,
 ) -> Brought
     ensures fits { AreStarts set result }
-    ensures film { OfFilm (content (S.files shelf.old) (S.opened shelf.old) (file_of cursor.old)) cursor.old index.old (λ octets. AreSeekStarts (plan_for octets cursor.old) set t dir result) }
-    ensures stands { OfFilm (content (S.files shelf.old) (S.opened shelf.old) (file_of cursor.old)) cursor.old index.old (λ octets. StandFor octets cursor.new index.new) }
+    ensures film { OnPlan S.files S.opened shelf.old cursor.old index.old
+        (λ plan. AreSeekStarts plan set t dir result) }
+    ensures stands { StayOn S.files S.opened shelf.old cursor.old index.old cursor.new index.new }
     ensures moves { cursor.new ≡ at_mark cursor.old (mark_of cursor.new) }
     ensures counts { CountsFit (S.faults shelf.old) (S.faults shelf.new) result }
     ensures later { S.faults shelf.old ≤ S.faults shelf.new }
-    ensures kept { Keeps (S.files shelf.old) (S.files shelf.new) (S.opened shelf.old) (S.opened shelf.new) (S.reach shelf.old) (S.reach shelf.new) }
+    ensures kept { OnlyReads S.files S.opened S.reach shelf.old shelf.new }
 {
     let before = shelf.fault_count();
     match index.find(cursor, shelf, set, t, dir) {
@@ -73,12 +72,13 @@ pub(crate) fn find_added<S: Shelf>(
     at: i64,
 ) -> Brought
     ensures fits { AreStarts added result }
-    ensures film { OfFilm (content (S.files shelf.old) (S.opened shelf.old) (file_of cursor.old)) cursor.old index.old (λ octets. AreSwitchStarts (plan_for octets cursor.old) added lead at result) }
-    ensures stands { OfFilm (content (S.files shelf.old) (S.opened shelf.old) (file_of cursor.old)) cursor.old index.old (λ octets. StandFor octets cursor.new index.new) }
+    ensures film { OnPlan S.files S.opened shelf.old cursor.old index.old
+        (λ plan. AreSwitchStarts plan added lead at result) }
+    ensures stands { StayOn S.files S.opened shelf.old cursor.old index.old cursor.new index.new }
     ensures moves { cursor.new ≡ at_mark cursor.old (mark_of cursor.new) }
     ensures counts { CountsFit (S.faults shelf.old) (S.faults shelf.new) result }
     ensures later { S.faults shelf.old ≤ S.faults shelf.new }
-    ensures kept { Keeps (S.files shelf.old) (S.files shelf.new) (S.opened shelf.old) (S.opened shelf.new) (S.reach shelf.old) (S.reach shelf.new) }
+    ensures kept { OnlyReads S.files S.opened S.reach shelf.old shelf.new }
 {
     let before = shelf.fault_count();
     match index.find_switch(cursor, shelf, added, lead, at) {
@@ -90,12 +90,15 @@ pub(crate) fn find_added<S: Shelf>(
 /// The part of the film from a mark on.
 pub(crate) fn read_part<S: Shelf>(cursor: &mut Cursor, shelf: &mut S, mark: Mark) -> Brought
     ensures fits { IsPart mark result }
-    ensures film { Told (content (S.files shelf.old) (S.opened shelf.old) (file_of cursor.old)) (λ octets. StandsFor octets cursor.old → IsMark (plan_for octets cursor.old) mark → IsChunkAt (plan_for octets cursor.old) mark result) }
-    ensures stands { Told (content (S.files shelf.old) (S.opened shelf.old) (file_of cursor.old)) (λ octets. StandsFor octets cursor.old → IsMark (plan_for octets cursor.old) mark → StandsFor octets cursor.new) }
+    ensures film { OnFilm S.files S.opened shelf.old cursor.old
+        (λ octets. IsMark (plan_for octets cursor.old) mark
+        → IsChunkAt (plan_for octets cursor.old) mark result) }
+    ensures stands { OnFilm S.files S.opened shelf.old cursor.old
+        (λ octets. IsMark (plan_for octets cursor.old) mark → StandsFor octets cursor.new) }
     ensures moves { cursor.new ≡ at_mark cursor.old (mark_of cursor.new) }
     ensures counts { CountsFit (S.faults shelf.old) (S.faults shelf.new) result }
     ensures later { S.faults shelf.old ≤ S.faults shelf.new }
-    ensures kept { Keeps (S.files shelf.old) (S.files shelf.new) (S.opened shelf.old) (S.opened shelf.new) (S.reach shelf.old) (S.reach shelf.new) }
+    ensures kept { OnlyReads S.files S.opened S.reach shelf.old shelf.new }
 {
     let before = shelf.fault_count();
     cursor.goto(mark);
@@ -123,7 +126,8 @@ fn stop(demux: &mut Demux, no: u64, failure: Failure) -> Taken
 pub(crate) fn bring(demux: &mut Demux, no: u64, brought: Brought) -> Result<Taken, DemuxError>
     requires brought { Brings no brought demux.old }
     ensures value { Takes no brought demux.old result demux.new }
-    ensures film { (film : Film) → IsOfFilm film no brought demux.old → DemuxStandsFor film demux.old → DemuxStandsFor film demux.new }
+    ensures film { (film : Film) → IsOfFilm film no brought demux.old
+        → DemuxStandsFor film demux.old → DemuxStandsFor film demux.new }
     ensures marks { AreAmong (marks_in brought (marks_of demux.old.cache)) demux.new.cache }
     ensures demux { IsDemux demux.new }
 {

@@ -58,6 +58,7 @@ plays octets c limits lines halt d opens drives kept runs =
     record {
       runs = runs;
       used = subst (λ (l : Limits). IsUsed film l (reverse d.demux.journal)) kept (stands_used film d.demux here);
+      still = here.still;
       legal = λ regular. stands_legal film d.demux here regular;
       gapless = stands_gapless film d.demux here;
     }

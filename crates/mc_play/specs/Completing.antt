@@ -21,6 +21,7 @@ use Rattle.mc_script.specs.Plays.{Leaves, taken_after}
 use Rattle.mc_journal.specs.Drives.{Readings, readings, selection}
 use Rattle.mc_journal.specs.Callers.{reader}
 use Rattle.mc_play.specs.Asked.{FileIs, ScriptIs, name_at}
+use Rattle.mc_script.specs.Options.{run_line}
 use Rattle.mc_play.specs.Run.{Counts}
 
 -- ---- drains to the ends
@@ -71,3 +72,7 @@ Fulfils files words line hd _ = ⊥
 abbrev pub Completes : Option Files → List (List ℕ) → Option RunLine → Counts → List DemuxRecord → Exit → Type 0
 Completes files words None n hd exit = ⊤
 Completes files words (Some line) n hd exit = HasAll files words line → IsQuiet n → length hd < 16000000 → Fulfils files words line hd exit
+
+-- of these words
+abbrev pub RunCompletes : Option Files → List (List ℕ) → Counts → List DemuxRecord → Exit → Type 0
+RunCompletes files words n hd exit = Completes files words (run_line words) n hd exit

@@ -17,7 +17,7 @@ use Rattle.mc_journal.specs.declared.record.DemuxRecord.{DemuxRecord}
 use Rattle.mc_journal.specs.declared.record.DemuxRecord.TheVariants.{Opened, Failed, Starved}
 use Rattle.mc_journal.specs.Films.{IsRegular}
 use Rattle.mc_journal.specs.Legal.{IsGapless, IsLegal}
-use Rattle.mc_journal.specs.Used.{IsUsed}
+use Rattle.mc_journal.specs.Used.{IsUsed, is_still}
 use Rattle.mc_script.specs.declared.acts.Act.{Act}
 use Rattle.mc_script.specs.declared.exit.Exit.{Exit}
 use Rattle.mc_script.specs.declared.exit.Exit.TheVariants as exits
@@ -25,6 +25,7 @@ use Rattle.mc_script.specs.declared.exit.ShelfCause.{ShelfCause}
 use Rattle.mc_script.specs.declared.exit.ShelfCause.TheVariants as causes
 use Rattle.mc_script.specs.declared.options.RunLine.{RunLine}
 use Rattle.mc_journal.specs.Drives.{readings}
+use Rattle.mc_script.specs.Options.{run_line}
 use Rattle.mc_script.specs.Transcript.{transcript}
 use Rattle.mc_lines.specs.declared.halt.Halt.{Halt}
 use Rattle.mc_lines.specs.declared.halt.Halt.TheVariants as halts
@@ -34,13 +35,15 @@ use Rattle.mc_play.specs.Asked.{FileIs, ScriptIs, Stopped, name_at}
 
 -- ---- the steps
 
--- A script was played over a film: each record of the journal stands in its place, under these limits. So what each reader
+-- A script was played over a film: each record of the journal stands in its place, under these limits, and nothing that is
+-- owed behind the last one is left out: no drop, no join, and no seek that has to be sent again. So what each reader
 -- was given since its last seek or switch is a front of a fresh reading where the film is regular, and a run of its track's
 -- packets in any case. The journal is one opening with the default tracks, and behind it what the lines leave, one after the
 -- other: all of them, or, where it halts, those before it and a part of the next.
 pub record Plays (plan : Plan) (limits : Limits) (lines : List (ℕ × Act)) (halt : Result Unit Halt) (hd : List DemuxRecord) : Type 0 where
   pub runs : Runs (readings (film_for plan) limits (choice_for plan.tracks)) lines (Opened 0 (default_choice_of plan.tracks) ∷ []) hd halt
   pub used : IsUsed (film_for plan) limits (reverse hd)
+  pub still : is_still (plan_packets plan) (reverse hd) ≡ true
   pub legal : IsRegular (plan_packets plan) (knows plan.tracks) → IsLegal (plan_packets plan) (film_for plan).ending (reverse hd)
   pub gapless : IsGapless (plan_packets plan) (film_for plan).ending (reverse hd)
 
@@ -67,6 +70,10 @@ pub record Counts : Type 0 where
   pub shelf_now : ℕ
   pub sink_before : ℕ
   pub sink_now : ℕ
+
+-- of the shelf before and now, and of the sink before and now
+abbrev pub counts_of : ℕ → ℕ → ℕ → ℕ → Counts
+counts_of a b c d = record { shelf_before = a; shelf_now = b; sink_before = c; sink_now = d }
 
 abbrev pub is_failed : DemuxRecord → Bool
 is_failed (Failed by before after) = true
@@ -102,6 +109,10 @@ IsUsage _ = ⊥
 abbrev pub Ends : Option Files → List (List ℕ) → Option RunLine → Counts → List DemuxRecord → Exit → Type 0
 Ends files words None n hd exit = IsUsage exit × (hd ≡ [])
 Ends files words (Some line) n hd exit = EndsLine files words line n hd exit
+
+-- so a run of these words ends
+abbrev pub RunEnds : Option Files → List (List ℕ) → Counts → List DemuxRecord → Exit → Type 0
+RunEnds files words n hd exit = Ends files words (run_line words) n hd exit
 
 -- ---- the text
 

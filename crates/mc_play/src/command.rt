@@ -1,10 +1,9 @@
 ghost use Rattle.std.specs.Prelude.{◌≡◌, ◌≤◌, ◌<◌, [], map, string_bytes, length, IfOk, IfErr};
 ghost use Rattle.std.specs.List.{list_any};
-ghost use Rattle.mc_script.specs.Options.{run_line};
 ghost use Rattle.mc_script.specs.RunLines.{AreLimits, IsWithin};
 ghost use Rattle.mc_play.specs.Asked.{Stopped};
-ghost use Rattle.mc_play.specs.Completing.{Completes};
-ghost use Rattle.mc_play.specs.Run.{Ends, Stepped, WriteFits, Written, WroteWell, exit_for, halt_exit, is_failed, is_starved, shelf_exit, write_exit};
+ghost use Rattle.mc_play.specs.Completing.{RunCompletes};
+ghost use Rattle.mc_play.specs.Run.{RunEnds, counts_of, Stepped, WriteFits, Written, WroteWell, exit_for, halt_exit, is_failed, is_starved, shelf_exit, write_exit};
 
 use crate::opening::{open_film, read_script};
 use crate::playing::{Played, play};
@@ -29,8 +28,10 @@ fn perform<D: Shelf>(
     requires within { IsWithin (length words.now) line }
     requires limits { AreLimits line.limits }
     requires before { before ≡ D.faults shelf.old }
-    ensures played { IfOk result (λ p. Stepped (D.files shelf.old) (map string_bytes words.now) line before (D.faults shelf.new) p.halt p.hd) }
-    ensures stopped { IfErr result (Stopped (D.files shelf.old) (map string_bytes words.now) line before (D.faults shelf.new)) }
+    ensures played { IfOk result (λ p. Stepped (D.files shelf.old)
+        (map string_bytes words.now) line before (D.faults shelf.new) p.halt p.hd) }
+    ensures stopped { IfErr result (Stopped (D.files shelf.old)
+        (map string_bytes words.now) line before (D.faults shelf.new)) }
     ensures later { D.faults shelf.old ≤ D.faults shelf.new }
 {
     let script = read_script(alloc, shelf, words, line.script, before)?;
@@ -149,9 +150,13 @@ pub fn run<D: Shelf, K: Sink>(
     shelf: &mut D,
     out: &mut K,
 ) -> RunReport
-    ensures ends { Ends (D.files shelf.old) (map string_bytes words.now) (run_line (map string_bytes words.now)) (record { shelf_before = D.faults shelf.old; shelf_now = D.faults shelf.new; sink_before = K.faults out.old; sink_now = K.faults out.new }) result.hd result.exit }
+    ensures ends { RunEnds (D.files shelf.old) (map string_bytes words.now)
+        (counts_of (D.faults shelf.old) (D.faults shelf.new) (K.faults out.old) (K.faults out.new))
+        result.hd result.exit }
     ensures written { Written (K.text out.old) (K.text out.new) result.hd result.exit }
-    ensures complete { Completes (D.files shelf.old) (map string_bytes words.now) (run_line (map string_bytes words.now)) (record { shelf_before = D.faults shelf.old; shelf_now = D.faults shelf.new; sink_before = K.faults out.old; sink_now = K.faults out.new }) result.hd result.exit }
+    ensures complete { RunCompletes (D.files shelf.old) (map string_bytes words.now)
+        (counts_of (D.faults shelf.old) (D.faults shelf.new) (K.faults out.old) (K.faults out.new))
+        result.hd result.exit }
 {
     let before = shelf.fault_count();
     let Some(line) = parse_run_line(words) else {

@@ -38,8 +38,10 @@ fn open_named<D: Shelf>(
 ) -> Result<FileNo, Exit>
     requires word { n < length words.now }
     requires before { before ≤ D.faults shelf.old }
-    ensures opened { IfOk result (λ file. OpensFile (D.files shelf.new) (D.opened shelf.new) (name_at (map string_bytes words.now) n) file.0) }
-    ensures stopped { IfErr result (FileStops (D.files shelf.old) (map string_bytes words.now) n before (D.faults shelf.new)) }
+    ensures opened { IfOk result (λ file. OpensFile (D.files shelf.new) (D.opened shelf.new)
+        (name_at (map string_bytes words.now) n) file.0) }
+    ensures stopped { IfErr result
+        (FileStops (D.files shelf.old) (map string_bytes words.now) n before (D.faults shelf.new)) }
     ensures files { D.files shelf.new ≡ D.files shelf.old }
     ensures later { D.faults shelf.old ≤ D.faults shelf.new }
 {
@@ -68,9 +70,11 @@ fn read_lines<D: Shelf>(
     before: u64,
 ) -> Result<Script, Exit>
     requires before { before ≤ D.faults shelf.old }
-    ensures script { IfOk result (λ script. Told (content (D.files shelf.old) (D.opened shelf.old) file.0) (ReadsScript script)) }
+    ensures script { IfOk result (λ script. Told
+        (content (D.files shelf.old) (D.opened shelf.old) file.0) (ReadsScript script)) }
     ensures paired { IfOk result (IsPaired false) }
-    ensures stopped { IfErr result (LinesStop (content (D.files shelf.old) (D.opened shelf.old) file.0) before (D.faults shelf.new)) }
+    ensures stopped { IfErr result (LinesStop
+        (content (D.files shelf.old) (D.opened shelf.old) file.0) before (D.faults shelf.new)) }
     ensures files { D.files shelf.new ≡ D.files shelf.old }
     ensures later { D.faults shelf.old ≤ D.faults shelf.new }
 {
@@ -98,7 +102,8 @@ pub(crate) fn read_script<D: Shelf>(
     requires before { before ≤ D.faults shelf.old }
     ensures script { IfOk result (ScriptIs (D.files shelf.old) (map string_bytes words.now) named) }
     ensures paired { IfOk result (IsPaired false) }
-    ensures stopped { IfErr result (ScriptStops (D.files shelf.old) (map string_bytes words.now) named before (D.faults shelf.new)) }
+    ensures stopped { IfErr result (ScriptStops (D.files shelf.old)
+        (map string_bytes words.now) named before (D.faults shelf.new)) }
     ensures files { D.files shelf.new ≡ D.files shelf.old }
     ensures later { D.faults shelf.old ≤ D.faults shelf.new }
 {
@@ -112,8 +117,11 @@ pub(crate) fn read_script<D: Shelf>(
 /// The cursor at the opening of an opened file, or why there is none.
 fn begin<D: Shelf>(alloc: Global, shelf: &mut D, file: FileNo, before: u64) -> Result<Cursor, Exit>
     requires { before ≤ D.faults shelf.old }
-    ensures opened { IfOk result (λ c. Told (content (D.files shelf.old) (D.opened shelf.old) file.0) (λ octets. OpensFilm octets c) × (c.file.0 ≡ file.0)) }
-    ensures stopped { IfErr result (BeginStops (content (D.files shelf.old) (D.opened shelf.old) file.0) before (D.faults shelf.new)) }
+    ensures opened { IfOk result (λ c. Told
+        (content (D.files shelf.old) (D.opened shelf.old) file.0) (λ octets. OpensFilm octets c) ×
+        (c.file.0 ≡ file.0)) }
+    ensures stopped { IfErr result (BeginStops
+        (content (D.files shelf.old) (D.opened shelf.old) file.0) before (D.faults shelf.new)) }
     ensures files { D.files shelf.new ≡ D.files shelf.old }
     ensures numbers { D.opened shelf.new ≡ D.opened shelf.old }
     ensures later { D.faults shelf.old ≤ D.faults shelf.new }
@@ -136,8 +144,10 @@ pub(crate) fn open_film<D: Shelf>(
 ) -> Result<Cursor, Exit>
     requires word { n < length words.now }
     requires before { before ≤ D.faults shelf.old }
-    ensures opened { IfOk result (IsOpened (D.files shelf.new) (D.opened shelf.new) (name_at (map string_bytes words.now) n)) }
-    ensures stopped { IfErr result (FilmStops (D.files shelf.old) (map string_bytes words.now) n before (D.faults shelf.new)) }
+    ensures opened { IfOk result (IsOpened (D.files shelf.new) (D.opened shelf.new)
+        (name_at (map string_bytes words.now) n)) }
+    ensures stopped { IfErr result
+        (FilmStops (D.files shelf.old) (map string_bytes words.now) n before (D.faults shelf.new)) }
     ensures files { D.files shelf.new ≡ D.files shelf.old }
     ensures later { D.faults shelf.old ≤ D.faults shelf.new }
 {

@@ -55,7 +55,8 @@ fn open_driver(alloc: Global, cursor: Cursor, limits: Limits) -> Result<Driver, 
     requires limits { AreLimits limits }
     ensures film { (octets : List ℕ) → AreBytes octets → OpensFilm octets cursor
         → IfOk result (Drives octets) }
-    ensures journal { IfOk result (λ d. d.demux.journal ≡ Opened 0 (default_choice_of cursor.tracks) ∷ []) }
+    ensures journal { IfOk result (λ d. d.demux.journal
+        ≡ Opened 0 (default_choice_of cursor.tracks) ∷ []) }
     ensures cursor { IfOk result (λ d. d.cursor ≡ cursor) }
     ensures limits { IfOk result (λ d. d.demux.cache.limits ≡ limits) }
     ensures list { IfOk result (λ d. d.demux.list ≡ cursor.tracks) }
@@ -85,7 +86,8 @@ pub(crate) fn play<D: Shelf>(
     ensures played { InFile D.files D.opened shelf.old cursor.file.0
         (λ octets. OpensFilm octets cursor
         → IfOk result (λ p. Plays (plan_for octets cursor) limits script.now p.halt p.hd)) }
-    ensures grows { IfOk result (λ p. Grows (D.faults shelf.old) (D.faults shelf.new) (Opened 0 (default_choice_of cursor.tracks) ∷ []) p.hd) }
+    ensures grows { IfOk result (λ p. Grows (D.faults shelf.old) (D.faults shelf.new)
+        (Opened 0 (default_choice_of cursor.tracks) ∷ []) p.hd) }
     ensures full { IfOk result (λ p. IsFull p.hd p.halt) }
     ensures files { D.files shelf.new ≡ D.files shelf.old }
     ensures later { D.faults shelf.old ≤ D.faults shelf.new }

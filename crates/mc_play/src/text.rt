@@ -51,8 +51,11 @@ fn read_front<D: Shelf>(
     most: usize,
 ) -> Result<Vec<u8>, TextError>
     requires { most ≤ 16777217 }
-    ensures octets { IfOk result (λ text. Told (content (D.files shelf.old) (D.opened shelf.old) file.0) (λ octets. text.items ≡ take most octets)) }
-    ensures reads { ReadsText (D.files shelf.old) (D.files shelf.new) (D.opened shelf.old) (D.opened shelf.new) (D.faults shelf.old) (D.faults shelf.new) result }
+    ensures octets { IfOk result (λ text. Told
+        (content (D.files shelf.old) (D.opened shelf.old) file.0)
+        (λ octets. text.items ≡ take most octets)) }
+    ensures reads { ReadsText (D.files shelf.old) (D.files shelf.new) (D.opened shelf.old)
+        (D.opened shelf.new) (D.faults shelf.old) (D.faults shelf.new) result }
 {
     let mut text = vec![in alloc; 0u8; most]?;
     let count = read_full(shelf, file, 0, &mut text)?;
@@ -67,8 +70,11 @@ pub(crate) fn read_text<D: Shelf>(
     shelf: &mut D,
     file: FileNo,
 ) -> Result<Vec<u8>, TextError>
-    ensures octets { IfOk result (λ text. Told (content (D.files shelf.old) (D.opened shelf.old) file.0) (λ octets. text.items ≡ take 16777217 octets)) }
-    ensures reads { ReadsText (D.files shelf.old) (D.files shelf.new) (D.opened shelf.old) (D.opened shelf.new) (D.faults shelf.old) (D.faults shelf.new) result }
+    ensures octets { IfOk result (λ text. Told
+        (content (D.files shelf.old) (D.opened shelf.old) file.0)
+        (λ octets. text.items ≡ take 16777217 octets)) }
+    ensures reads { ReadsText (D.files shelf.old) (D.files shelf.new) (D.opened shelf.old)
+        (D.opened shelf.new) (D.faults shelf.old) (D.faults shelf.new) result }
 {
     let front = read_front(alloc, shelf, file, SHORT)?;
     if front.len() < SHORT {

@@ -7,7 +7,7 @@ use bytes::Bytes;
 use mc_cache::Cache;
 use mc_packet::{Chunk, Ending, Heads, Mark, NoMemory, Packet, Packets};
 use rows::RowError;
-use rows_packets::{at, mark_at};
+use rows_packets::{at, is_light, mark_at};
 use std::alloc::Global;
 
 // The most octets of a cache that is fed.
@@ -28,17 +28,6 @@ fn weight(cache: &Cache) -> u128
 {
     let heads = heads_at(0);
     cache.forward(&heads) as u128 + cache.back(&heads) as u128
-}
-
-// At most one packet, whose payload is short.
-fn is_light(packets: &[Packet]) -> bool
-    ensures { IsTrue result → weights packets.now < 1000 }
-{
-    match packets {
-        [] => true,
-        [packet] => packet.body.len() < 900,
-        _ => false,
-    }
 }
 
 // A packet in a block: its time is ten times the block and so much more.

@@ -6,7 +6,9 @@ use std::alloc::Global;
 /// A shelf in memory with one film, and the film's cursor.
 #[derive(Drop)]
 pub struct Opened {
+    /// The shelf that has the film.
     pub shelf: MemShelf,
+    /// The cursor on it.
     pub cursor: Cursor,
 }
 

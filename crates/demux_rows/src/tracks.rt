@@ -68,7 +68,6 @@ fn passes(list: &TrackList, kind: Kind, track: Option<TrackNo>) -> bool
     }
 }
 
-#[tactic(auto, using(crate::proofs::Sets::same_distinct))]
 fn are_known(list: &TrackList, set: Choice) -> bool
     ensures { result ≡ is_known (knows list.now) set }
 {

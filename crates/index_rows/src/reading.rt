@@ -8,8 +8,11 @@ use std::alloc::Global;
 /// A film in memory with a cursor and an index of it.
 #[derive(Drop)]
 pub struct Reading {
+    /// The shelf that has the film, and counts what is read.
     pub shelf: CountingShelf<CleanShelf>,
+    /// The cursor on it.
     pub cursor: Cursor,
+    /// The index of its tracks.
     pub index: Index,
 }
 

@@ -8,7 +8,9 @@ use mc_range::Range;
 /// A range that is held ready for a start, with its starts.
 #[derive(Drop)]
 pub(crate) struct Prepared {
+    /// The starts for which it is ready.
     pub starts: Starts,
+    /// The range, with room for what it may take over by joins.
     pub range: Range,
 }
 

@@ -7,8 +7,12 @@ use mc_walk::BlockMark;
 /// element in short. `block` is `None` exactly where the part has no packet.
 #[derive(Clone, Copy, Debug, PartialEq, Eq)]
 pub struct HeadChunk {
+    /// The mark from which the part was read.
     pub from: Mark,
+    /// The mark just past its block element, or at the film's ending.
     pub to: Mark,
+    /// The first packet of its block element in short, where it has one.
     pub block: Option<BlockMark>,
+    /// How the film ends, where the part came to its end.
     pub ending: Option<Ending>,
 }

@@ -31,7 +31,9 @@ use std::alloc::{AllocError, Global};
 /// What a script left, and why it halted before its end.
 #[derive(Drop)]
 pub struct Played {
+    /// What happened in the demuxer, the oldest record first.
     pub hd: DemuxJournal,
+    /// Why the script halted before its end, if it did.
     pub halt: Result<(), Halt>,
 }
 

@@ -13,8 +13,11 @@ use std::collections::VecDeque;
 /// The first place at which two queues differ, and the time of the packet that each has there.
 #[derive(Clone, Copy, Debug, PartialEq, Eq)]
 pub struct Difference {
+    /// The first place at which only one has a packet, or each one of another time.
     pub pos: Pos,
+    /// The time of the own packet there in nanoseconds, if there is one.
     pub ours: Option<i64>,
+    /// The time of the other's.
     pub other: Option<i64>,
 }
 

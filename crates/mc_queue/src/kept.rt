@@ -29,8 +29,11 @@ pub struct Summary {
 pub(crate) struct Kept {
     /// As in a summary.
     pub weight: u64,
+    /// As in a summary.
     pub least: Option<i64>,
+    /// As in a summary.
     pub most: Option<i64>,
+    /// As in a summary.
     pub count: u32,
     /// The greatest time of all packets.
     pub greatest: Option<i64>,

@@ -13,15 +13,20 @@ use mc_queue::{Queue, earlier, is_before, is_upto};
 /// A drop: the packets of a track from one place up to, but without, another.
 #[derive(Clone, Copy, Debug, PartialEq, Eq)]
 pub struct Cut {
+    /// The track whose queue is cut.
     pub track: TrackNo,
+    /// Where its queue began.
     pub from: Pos,
+    /// Where it begins now.
     pub to: Pos,
 }
 
 /// A kind whose queue may be cut, and the place of the first packet there.
 #[derive(Clone, Copy, Debug, PartialEq, Eq)]
 pub(crate) struct Victim {
+    /// The kind of the track.
     pub kind: Kind,
+    /// The place of its first packet.
     pub place: Pos,
 }
 

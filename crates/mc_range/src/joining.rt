@@ -10,7 +10,9 @@ use mc_queue::{Difference, Queue, UnionError};
 /// A difference, and the number of the track whose packets differ.
 #[derive(Clone, Copy, Debug, PartialEq, Eq)]
 pub(crate) struct Numbered {
+    /// The track's number.
     pub track: TrackNo,
+    /// Where its packets differ first.
     pub difference: Difference,
 }
 

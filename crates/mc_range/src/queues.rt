@@ -10,8 +10,11 @@ use std::alloc::Global;
 /// The queues of a range, at most one of a kind.
 #[derive(Drop)]
 pub(crate) struct Queues {
+    /// The packets of the selected video track, where its start is known.
     pub video: Option<Queue>,
+    /// Those of the selected audio track.
     pub audio: Option<Queue>,
+    /// Those of the selected subtitle track.
     pub sub: Option<Queue>,
 }
 

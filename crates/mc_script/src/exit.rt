@@ -57,7 +57,9 @@ impl Exit {
 /// How a command ended, and what happened in its demuxer.
 #[derive(Drop)]
 pub struct RunReport {
+    /// Whether it was carried out, or the cause that it was not.
     pub exit: Exit,
+    /// The demuxer's records, the oldest first; none where the steps were not reached.
     pub hd: DemuxJournal,
 }
 

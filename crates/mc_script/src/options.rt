@@ -29,8 +29,11 @@ pub enum Setting {
 /// The options that were set.
 #[derive(Clone, Copy)]
 pub struct Chosen {
+    /// `--forward`, in octets.
     pub forward: Option<u64>,
+    /// `--back`, in octets.
     pub back: Option<u64>,
+    /// `--readahead`, in nanoseconds.
     pub readahead: Option<i64>,
 }
 

@@ -72,8 +72,11 @@ fn parse_text(alloc: Global, text: &str) -> Result<Script, ScriptError>
 /// The acts of the lines so far, how many lines they are, and whether a job is out behind them.
 #[derive(Drop)]
 pub struct Reading {
+    /// The acts, each with the number of its line.
     pub script: Script,
+    /// How many lines were read.
     pub number: u32,
+    /// Whether a job that was taken has still to be given.
     pub is_out: bool,
 }
 

@@ -6,7 +6,10 @@ use mc_index::Index;
 /// index, which finds where tracks start.
 #[derive(Drop)]
 pub struct Driver {
+    /// What is cached and read, and what is to be done next.
     pub demux: Demux,
+    /// Reads the parts of the film from a mark on.
     pub cursor: Cursor,
+    /// Finds where tracks start.
     pub index: Index,
 }

@@ -5,22 +5,11 @@ ghost use Rattle.mc_range.specs.Tracks.{queue_under, selected_under};
 use mc_packet::{Choice, Chunk, Ending, Kind, Packet, Packets, Starts, TrackNo};
 use mc_range::{Range, UnionError};
 use rows::{Json, RowError, items_in};
-use rows_packets::{block_in, choice_in, ending_in, mark_at, packet_in, starts_in};
+use rows_packets::{block_in, choice_in, ending_in, is_light, mark_at, packet_in, starts_in};
 use std::alloc::Global;
 
 // The most octets of a range that is made longer or joined.
 const MOST: u128 = 1_000_000;
-
-// At most one packet, whose payload is short.
-fn is_light(packets: &[Packet]) -> bool
-    ensures { IsTrue result → weights packets.now < 1000 }
-{
-    match packets {
-        [] => true,
-        [packet] => packet.body.len() < 900,
-        _ => false,
-    }
-}
 
 // Feeds a range with a part of the film up to a block; gives the track that took it.
 fn feed(
@@ -65,7 +54,6 @@ pub fn reach(
     feed(range, to, Packets::new(alloc), ending)
 }
 
-#[tactic(auto, using(crate::proofs::Sets::same_distinct))]
 fn begun(alloc: Global, set: Choice, starts: &Starts) -> Result<Range, RowError> {
     if !set.is_distinct() || !starts.are_at_mark() {
         return Err(RowError::BadRow);
@@ -96,7 +84,6 @@ pub fn join(range: &mut Range, other: &mut Range) -> Option<Result<(), UnionErro
 }
 
 /// Selects other tracks.
-#[tactic(auto, using(crate::proofs::Sets::same_distinct))]
 pub fn retrack(range: &mut Range, set: Choice) -> Result<(), RowError> {
     if !set.is_distinct() {
         return Err(RowError::BadRow);

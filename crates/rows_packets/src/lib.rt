@@ -10,7 +10,7 @@ mod packets;
 mod places;
 
 pub use answers::{push_choice, push_ending, push_heads, push_place, push_span, push_time};
-pub use packets::{ending_in, packet_in, packets_in};
+pub use packets::{ending_in, is_light, packet_in, packets_in};
 pub use places::{
     at, block_in, choice_in, dir_in, heads_in, kind_in, mark_at, nanos_in, place_in, starts_in,
     track_in,

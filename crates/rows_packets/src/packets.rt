@@ -1,3 +1,6 @@
+ghost use Rattle.std.specs.Prelude.{◌+◌, ◌<◌, length, sum_by, IsTrue};
+ghost use Rattle.mc_packet.specs.declared.packet.Packet.{Packet};
+
 use crate::places::{at, block_in, track_in};
 use bytes::Bytes;
 use mc_packet::{Ending, Packet, Packets};
@@ -34,4 +37,16 @@ const ENDINGS: [(&str, Option<Ending>); 2] = [("open", None), ("clean", Some(End
 /// Whether the film goes on (`open`) or ends cleanly (`clean`).
 pub fn ending_in(argument: &Json<'_>) -> Result<Option<Ending>, RowError> {
     named(&ENDINGS, text_in(argument)?)
+}
+
+/// At most one packet, whose payload has fewer than 900 octets: what a range or a cache of a table is
+/// fed, so that all of them together stay far below what a `u64` counts.
+pub fn is_light(packets: &[Packet]) -> bool
+    ensures { IsTrue result → sum_by (λ (p : Packet). length p.body + 64) packets.now < 1000 }
+{
+    match packets {
+        [] => true,
+        [packet] => packet.body.len() < 900,
+        _ => false,
+    }
 }

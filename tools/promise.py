@@ -101,7 +101,7 @@ PATHS = [
         "It is `Cached` exactly where a range that the journal leaves serves it. What each selected track's reader is"
         " given from then on is, on a film whose keyframes have rising times, a front of a fresh reading of the film"
         " from the place that the seek means; on any film packets of its track with none left out.",
-        "Plays IsUsed Used.IsNext Allowed.May Allowed.MaySeek is_served serves served_head read_from MayGive IsRegular IsLegal GaveFronts"
+        "Plays IsUsed is_still Used.IsNext Allowed.May Allowed.MaySeek is_served told serves served_head read_from MayGive IsRegular IsLegal GaveFronts"
         " reading IsGapless start_of",
     ),
     (
@@ -112,7 +112,7 @@ PATHS = [
     (
         "What is a film, and how does it end?",
         "Packets in the order of their places, found by a walk from element to element; a clean, cut or damaged end.",
-        "opened_film film_walk step_at move_of block_element_of film_told film_for",
+        "opened_film film_walk step_at move_of block_element_of plan_packets film_for",
     ),
     (
         "Is anything left out?",

@@ -19,9 +19,11 @@ use Rattle.mc_demux.specs.declared.answer.Reading.{Reading}
 use Rattle.mc_demux.specs.declared.answer.Reading.TheVariants.{Gave, NotYet, End, Overfull, Fault, Wanting, Unselected}
 use Rattle.mc_demux.specs.declared.waiting.Failure.{Failure}
 use Rattle.mc_demux.specs.declared.waiting.Failure.TheVariants.{Failed, Starved}
+use Rattle.mc_cache.specs.Cache.{CacheState}
+use Rattle.mc_demux.specs.Trimming.{Trims}
 use Rattle.mc_demux.specs.State.{DemuxState, next_in, end_in, forward_of}
 use Rattle.mc_demux.specs.Demuxers.{IsDemux, IsPlaced}
-use Rattle.mc_demux.specs.Readings.{Gives, ReadOn, ended_after, heads_after, reading_by, reading_of, record_of}
+use Rattle.mc_demux.specs.Readings.{Gives, ended_after, heads_after, reading_by, reading_of, record_of}
 use Rattle.mc_demux.specs.Film.{Fits, StandsFor}
 use Rattle.mc_demux.proofs.Failing.{reverse-push}
 use Rattle.mc_demux.proofs.Forward.{forward-is}
@@ -119,12 +121,14 @@ gives_keep film old new by own heads ended i p s t g =
       known = s.known;
     })
 
-pub gives_read : (old new : DemuxState) (by track : ℕ) (reading : Reading) (own : DemuxRecord)
-    → Gives by own (heads_after track reading old) (ended_after track reading old) old new → ReadOn by track reading own old new
-gives_read old new by track reading own g =
-    let d = trimmed by old.set (heads_after track reading old) old.waiting old.seeking old.cache (old.journal ++ own ∷ []) new.cache new.journal g.trims in
-    record {
-      changed = g.changed;
+pub gives_now : (old now : DemuxState) (by : ℕ) (own : DemuxRecord) (heads : Heads) (ended : Choice) (c : CacheState) (j : List DemuxRecord) (spare : ℕ) → old ≡ now
+    → Trims by heads old.cache (old.journal ++ own ∷ []) c j → Gives by own heads ended now (record old { cache = c; heads = heads; ended = ended; journal = j; spare = spare })
+gives_now old now by own heads ended c j spare was trims =
+    let d = trimmed by old.set heads old.waiting old.seeking old.cache (old.journal ++ own ∷ []) c j trims in
+    let new : DemuxState = record old { cache = c; heads = heads; ended = ended; journal = j; spare = spare } in
+    subst (λ (x : DemuxState). Gives by own heads ended x new) was (record {
+      trims = trims;
+      changed = refl;
       limits_are = d.limits_are;
       wrote = record { drops = d.drops; grows = d.grows ∙ append_assoc old.journal (own ∷ []) d.drops; are = d.are };
-    }
+    })

@@ -12,7 +12,7 @@ use Rattle.mc_packet.specs.Choices.{or_else, passes, is_other, is_distinct, is_k
 use Rattle.mc_tracks.specs.declared.track.Track.{Track}
 use Rattle.mc_tracks.specs.TrackList.{numbered, is_of}
 use Rattle.mc_range.specs.Filmed.{same_kinds}
-use Rattle.mc_demux.specs.Selecting.{choice_of, first_twin, is_coded, is_listed_as, knows, refusal_of}
+use Rattle.mc_tracks.specs.Selection.{choice_of, first_twin, is_coded, is_listed_as, knows, refusal_of}
 
 -- ---- one kind a track
 

@@ -54,5 +54,6 @@ pub mod Emptied
 pub mod Idling
 pub mod Among
 pub mod Remarked
+pub mod Grown
 pub mod FilmEleventh
 pub mod FilmBegins

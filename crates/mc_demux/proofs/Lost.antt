@@ -27,7 +27,8 @@ use Rattle.mc_cache.proofs.Reselected.{retracked_weighs}
 use Rattle.mc_demux.specs.declared.waiting.Target.{Target}
 use Rattle.mc_demux.specs.State.{DemuxState}
 use Rattle.mc_demux.specs.Demuxers.{AreAwaited, AreLimits, IsDemux, IsPlaced, heaviest}
-use Rattle.mc_demux.specs.Selecting.{added_to, knows, own_records, sought_again, told_drops, waiting_after}
+use Rattle.mc_tracks.specs.Selection.{knows}
+use Rattle.mc_demux.specs.Selecting.{added_to, own_records, sought_again, told_drops, waiting_after}
 use Rattle.mc_demux.specs.Trimming.{Trims}
 use Rattle.mc_demux.proofs.Awaited.{kept_await, none_await}
 use Rattle.mc_demux.proofs.Kept.{still_placed}

@@ -35,7 +35,7 @@ use Rattle.mc_demux.specs.Demuxers.{AreAwaited, AreLimits, IsDemux, IsPlaced}
 use Rattle.mc_demux.specs.Film.{Fits, StandsFor}
 use Rattle.mc_demux.specs.Opening.{HasTracks, MayOpen, first_starts, no_heads}
 use Rattle.mc_demux.specs.Outcomes.{head_at, heads_at}
-use Rattle.mc_demux.specs.Selecting.{knows}
+use Rattle.mc_tracks.specs.Selection.{knows}
 use Rattle.mc_demux.proofs.Awaited.{none_await}
 use Rattle.mc_demux.proofs.Places.{if_queue, queue_selected}
 use Rattle.mc_demux.proofs.Seeking.{none_of, not_nothing}

@@ -1,5 +1,5 @@
 -- A seek turns the cache to the range that serves it, and leaves a demuxer.
-use Rattle.std.proofs.Common.{◌≡◌, ℕ, ◌+◌, ◌≤◌, Bool, true, false, Option, Some, None, List, [], ◌∷◌, ◌++◌, length, length-append, refl, ap, sym, subst, ◌∙◌, inl, inr, arith}
+use Rattle.std.proofs.Common.{◌≡◌, ℕ, ◌+◌, ◌≤◌, Bool, true, false, Option, Some, None, List, [], ◌∷◌, ◌++◌, append_assoc, length, length-append, refl, ap, sym, subst, ◌∙◌, inl, inr, arith}
 use Rattle.std.specs.Prelude.{is_some, IfSome, ℤ}
 use Rattle.std.specs.List.{AllByRecursion, filter, find}
 use Rattle.std.proofs.lemmas.Bool.{cases_Bool}
@@ -24,7 +24,7 @@ use Rattle.mc_demux.specs.declared.job.Job.{Job}
 use Rattle.mc_demux.specs.declared.waiting.Target.{Target}
 use Rattle.mc_demux.specs.State.{DemuxState}
 use Rattle.mc_demux.specs.Demuxers.{AreAwaited, AreLimits, IsDemux, IsPlaced, KeepsJob, heaviest}
-use Rattle.mc_demux.specs.Selecting.{knows}
+use Rattle.mc_tracks.specs.Selection.{knows}
 use Rattle.mc_demux.specs.Seeking.{Goes, Turns, heads_or, target_after}
 use Rattle.mc_demux.specs.Trimming.{Trims}
 use Rattle.mc_demux.proofs.Awaited.{less_await, none_await}
@@ -211,6 +211,8 @@ pub goes_told : (old now : DemuxState) (by : ℕ) (t same : ℤ) (dir : Dir) (ho
 goes_told old now by t same dir how turned c heads j j' seeking none ended spare was e it turns how_is heads_are seeking_is none_is ended_is pushed trims =
     let after = heads_or old.heads (heads_in old.set same dir (server old.set same dir old.cache)) in
     let went = subst (λ (h : Heads). Trims by h turned (old.journal ++ Sought by old.set same dir how ∷ []) c j') heads_are (subst (λ (x : List DemuxRecord). Trims by heads turned x c j') pushed trims) in
+    let own : DemuxRecord = Sought by old.set same dir how in
+    let d = trimmed by old.set after nothing (target_after same dir how) turned (old.journal ++ own ∷ []) c j' went in
     let new : Heads → Option Target → Choice → Choice → DemuxState =
     λ (h : Heads) (s : Option Target) (w n : Choice). record old { cache = c; heads = h; seeking = s; waiting = w; failure = None; ended = n; number = old.number + 1; kept = None; fed = false; journal = j'; spare = spare } in
     let all : new heads seeking none ended ≡ new after (target_after same dir how) nothing nothing =
@@ -218,4 +220,13 @@ goes_told old now by t same dir how turned c heads j j' seeking none ended spare
     ∙ ap (λ (w : Choice). new after (target_after same dir how) w ended) none_is ∙ ap (λ (n : Choice). new after (target_after same dir how) nothing n) ended_is in
     subst (λ (d : DemuxState). Goes by t dir how d (new heads seeking none ended)) was
     (subst (λ (z : ℤ). Goes by z dir how old (new heads seeking none ended)) e
-    (record { turned = turned; is_cache = it; turns = turns; how_is = how_is; trims = went; changed = all }))
+    (record {
+      turned = turned;
+      is_cache = it;
+      turns = turns;
+      how_is = how_is;
+      trims = went;
+      changed = all;
+      limits_are = d.limits_are ∙ turned_limits old.set same dir how old.cache turned turns;
+      wrote = record { drops = d.drops; grows = d.grows ∙ append_assoc old.journal (own ∷ []) d.drops; are = d.are };
+    }))

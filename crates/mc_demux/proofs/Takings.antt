@@ -18,10 +18,10 @@ use Rattle.mc_demux.specs.declared.job.Job.{Job}
 use Rattle.mc_demux.specs.State.{DemuxState}
 use Rattle.mc_demux.specs.Demuxers.{IsDemux}
 use Rattle.mc_demux.specs.Film.{AreStartsOf, Fits, IsPartOf, StandsFor}
-use Rattle.mc_demux.specs.Feeding.{TakesPart}
-use Rattle.mc_demux.specs.Finding.{TakesStarts}
+use Rattle.mc_demux.specs.Feeding.{PutsPart, TakesPart}
+use Rattle.mc_demux.specs.Finding.{PutsStarts, TakesStarts}
 use Rattle.mc_demux.specs.Keeping.{IsAsBefore, IsRoomy}
-use Rattle.mc_demux.specs.Outcomes.{FedOn, FoundOn, PartFits, StartsFit, heads_at, is_at, took_in}
+use Rattle.mc_demux.specs.Outcomes.{PartFits, StartsFit, heads_at, is_at, took_in}
 use Rattle.mc_demux.specs.Records.{WroteAll}
 use Rattle.mc_demux.proofs.FilmParts.{part_keeps}
 use Rattle.mc_demux.proofs.FilmRoomy.{roomy_fits}
@@ -83,12 +83,15 @@ same_took chunk (Some a) (Some b) r =
 pub wrote_all : (by : ℕ) (own : DemuxRecord) (old new : List DemuxRecord) → WritesExtras by (old ++ own ∷ []) new → WroteAll by (own ∷ []) old new
 wrote_all by own old new w = record { extras = w.extras; grows = w.grows ∙ append_assoc old (own ∷ []) w.extras; are = w.are }
 
-pub fed_on : (old mid new : DemuxState) (chunk : Chunk) → IsAsBefore old mid → TakesPart chunk mid new → FedOn chunk old new
+pub fed_on : (old mid new : DemuxState) (chunk : Chunk) → IsAsBefore old mid → TakesPart chunk mid new → PutsPart chunk old new
 fed_on old mid new chunk m t =
     let d = settled 5 mid.set mid.heads mid.waiting mid.seeking t.fed (mid.journal ++ Fed 5 chunk.from chunk.to (took_in chunk mid.cache.current) chunk.ending ∷ []) new.cache new.journal t.is_cache t.settles in
     let w = wrote_all 5 (Fed 5 chunk.from chunk.to (took_in chunk mid.cache.current) chunk.ending) mid.journal new.journal d.wrote in
     let journal : mid.journal ≡ old.journal = ap (λ (x : DemuxState). x.journal) m.changed in
     record {
+      roomy = mid;
+      room = m;
+      takes = t;
       changed = t.changed ∙ ap (λ (x : DemuxState). let y : DemuxState = record x {
         cache = new.cache;
         number = x.number + 1;
@@ -139,13 +142,16 @@ before_both old mid new a b =
       roomier = omega arith;
     }
 
-pub found_on : (old mid new : DemuxState) (starts : Starts) → IsAsBefore old mid → IsDemux mid → IsSomeAnd mid.kept (StartsFit starts) → TakesStarts starts mid new → FoundOn starts old new
+pub found_on : (old mid new : DemuxState) (starts : Starts) → IsAsBefore old mid → IsDemux mid → IsSomeAnd mid.kept (StartsFit starts) → TakesStarts starts mid new → PutsStarts starts old new
 found_on old mid new starts m i k t =
     let g = begun mid starts t.begun t.journal i k t.is_cache t.begins in
     let d = settled 5 mid.set (heads_at starts mid.heads) nothing None t.begun t.journal new.cache new.journal t.is_cache t.settles in
     let w = wrote_all 5 (Found 5 starts) mid.journal new.journal (extras_both 5 (mid.journal ++ Found 5 starts ∷ []) t.journal new.journal g.wrote d.wrote) in
     let journal : mid.journal ≡ old.journal = ap (λ (x : DemuxState). x.journal) m.changed in
     record {
+      roomy = mid;
+      room = m;
+      takes = t;
       changed = t.changed ∙ ap (λ (x : DemuxState). let y : DemuxState = record x {
         cache = new.cache;
         heads = heads_at starts x.heads;

@@ -29,7 +29,7 @@ use Rattle.mc_demux.specs.Keeping.{IsAsBefore, IsRoomy}
 use Rattle.mc_demux.specs.Readings.{Gives, Reads, ReadsWith, ended_after, heads_after, past, past_packets, reading_by, reading_of, record_of, waiting_for, with_head}
 use Rattle.mc_demux.specs.Film.{StandsFor}
 use Rattle.mc_demux.specs.Records.{HasRoom}
-use Rattle.mc_demux.proofs.Answering.{gives_keep, gives_read, told_of}
+use Rattle.mc_demux.proofs.Answering.{gives_keep, told_of}
 use Rattle.mc_demux.proofs.Readers.{ahead_moved, placed_moved}
 
 -- ---- the end
@@ -167,16 +167,19 @@ before_self d = record { changed = refl; cache_is = same_cache d.cache; roomier 
 
 -- ---- an answer with its record
 
+same_gives : (old new : DemuxState) (by n : ℕ) (own : DemuxRecord) (heads : Heads) (ended : Choice) → Gives by own heads ended (record old { spare = n }) new → Gives by own heads ended old new
+same_gives old new by n own heads ended k = record { trims = k.trims; changed = k.changed; limits_are = k.limits_are; wrote = k.wrote }
+
 gives_room : (old new : DemuxState) (by track n : ℕ) (own : DemuxRecord) (x : Reading)
     → Gives by own (heads_after track x (record old { spare = n })) (ended_after track x (record old { spare = n })) (record old { spare = n }) new
     → Gives by own (heads_after track x old) (ended_after track x old) old new
-gives_room old new by track n own (Gave p) k = record { changed = k.changed; trims = k.trims }
-gives_room old new by track n own NotYet k = record { changed = k.changed; trims = k.trims }
-gives_room old new by track n own (End ending) k = record { changed = k.changed; trims = k.trims }
-gives_room old new by track n own (Overfull forward max) k = record { changed = k.changed; trims = k.trims }
-gives_room old new by track n own (Fault before after) k = record { changed = k.changed; trims = k.trims }
-gives_room old new by track n own Wanting k = record { changed = k.changed; trims = k.trims }
-gives_room old new by track n own Unselected k = record { changed = k.changed; trims = k.trims }
+gives_room old new by track n own (Gave p) k = same_gives old new by n own (heads_after track (Gave p) old) old.ended k
+gives_room old new by track n own NotYet k = same_gives old new by n own old.heads old.ended k
+gives_room old new by track n own (End ending) k = same_gives old new by n own old.heads (ended_after track (End ending) old) k
+gives_room old new by track n own (Overfull forward max) k = same_gives old new by n own old.heads old.ended k
+gives_room old new by track n own (Fault before after) k = same_gives old new by n own old.heads old.ended k
+gives_room old new by track n own Wanting k = same_gives old new by n own old.heads old.ended k
+gives_room old new by track n own Unselected k = same_gives old new by n own old.heads old.ended k
 
 pub roomy_gives : (old mid new : DemuxState) (by track : ℕ) (reading : Reading) (own : DemuxRecord) → IsRoomy old mid
     → Gives by own (heads_after track reading mid) (ended_after track reading mid) mid new → Gives by own (heads_after track reading old) (ended_after track reading old) old new
@@ -197,7 +200,7 @@ tell_keeps film old new by track reading own i e r g s =
 pub read_told : (old new : DemuxState) (by track : ℕ) (reading : Reading) (own : DemuxRecord) → HasRoom old.journal → reading ≡ reading_of track old
     → Some own ≡ record_of by track reading → Gives by own (heads_after track reading old) (ended_after track reading old) old new → Reads by track old (Ok reading) new
 read_told old new by track reading own h e r g =
-    (h, e, subst (λ (o : Option DemuxRecord). ReadsWith by track reading o old new) r (gives_read old new by track reading own g))
+    (h, e, subst (λ (o : Option DemuxRecord). ReadsWith by track reading o old new) r g)
 
 pub read_untold : (old : DemuxState) (by track : ℕ) (reading : Reading) → HasRoom old.journal → reading ≡ reading_of track old
     → None ≡ record_of by track reading → Reads by track old (Ok reading) old

@@ -32,8 +32,7 @@ use Rattle.mc_demux.specs.State.{DemuxState}
 use Rattle.mc_demux.specs.Demuxers.{IsDemux}
 use Rattle.mc_demux.specs.Film.{Fits, PlacesAre, StandsFor}
 use Rattle.mc_demux.specs.Keeping.{IsRoomy}
-use Rattle.mc_demux.specs.Records.{HasRoom}
-use Rattle.mc_demux.specs.Seeking.{Goes, IsRefused, Seeks, Turns, heads_after, heads_or, how_of, target_after}
+use Rattle.mc_demux.specs.Seeking.{Goes, IsRefused, Turns, heads_after, heads_or, how_of, target_after}
 use Rattle.mc_demux.proofs.Failing.{reverse-push}
 use Rattle.mc_demux.proofs.Places.{heads_places}
 use Rattle.mc_demux.proofs.Quiet.{refused_step}
@@ -60,26 +59,19 @@ refused_keeps film old new by why r w s =
 -- ---- with more room
 
 goes_room : (old new : DemuxState) (by n : ℕ) (t : ℤ) (dir : Dir) (how : How) → Goes by t dir how (record old { spare = n }) new → Goes by t dir how old new
-goes_room old new by n t dir how g = record { turned = g.turned; is_cache = g.is_cache; turns = g.turns; how_is = g.how_is; trims = g.trims; changed = g.changed }
+goes_room old new by n t dir how g = record {
+  turned = g.turned;
+  is_cache = g.is_cache;
+  turns = g.turns;
+  how_is = g.how_is;
+  trims = g.trims;
+  changed = g.changed;
+  limits_are = g.limits_are;
+  wrote = g.wrote;
+}
 
 pub roomy_goes : (old mid new : DemuxState) (by : ℕ) (t : ℤ) (dir : Dir) (how : How) → IsRoomy old mid → Goes by t dir how mid new → Goes by t dir how old new
 roomy_goes old mid new by t dir how r g = goes_room old new by mid.spare t dir how (subst (λ (x : DemuxState). Goes by t dir how x new) r.changed g)
-
--- ---- what is answered and left
-
-pub goes_seeks : (old new : DemuxState) (by : ℕ) (t : ℤ) (dir : Dir) (how : How) → HasRoom old.journal → is_empty old.set ≡ false → Goes by t dir how old new → Seeks by t dir old (Ok how) new
-goes_seeks old new by t dir how room some g =
-    let own : DemuxRecord = Sought by old.set t dir how in
-    let d = trimmed by old.set (heads_after t dir old) nothing (target_after t dir how) g.turned (old.journal ++ own ∷ []) new.cache new.journal g.trims in (
-      room,
-      some,
-      g.how_is,
-      record {
-        changed = g.changed;
-        limits_are = d.limits_are ∙ turned_limits old.set t dir how old.cache g.turned g.turns;
-        wrote = record { drops = d.drops; grows = d.grows ∙ append_assoc old.journal (own ∷ []) d.drops; are = d.are };
-      },
-    )
 
 -- ---- over the film's list
 

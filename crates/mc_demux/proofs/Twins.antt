@@ -5,7 +5,7 @@ use Rattle.std.specs.List.{list_any}
 use Rattle.std.proofs.lemmas.List.{drop_more, take_more, reverse-append}
 use Rattle.std.proofs.lemmas.List.Sorted.{list_any-IsPermutation, IsPermutation-reverse}
 use Rattle.mc_tracks.specs.declared.track.Track.{Track}
-use Rattle.mc_demux.specs.Selecting.{first_twin, is_twin}
+use Rattle.mc_tracks.specs.Selection.{first_twin, is_twin}
 
 any_back : (test : ℕ → Bool) (xs : List ℕ) → list_any test (reverse xs) ≡ list_any test xs
 any_back test xs = sym (list_any-IsPermutation test xs (reverse xs) (IsPermutation-reverse xs))

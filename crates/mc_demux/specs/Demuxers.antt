@@ -12,7 +12,7 @@ use Rattle.mc_demux.specs.declared.job.Job.TheVariants.{SeekTo, Refresh, Resume,
 use Rattle.mc_demux.specs.declared.waiting.Target.{Target}
 use Rattle.mc_demux.specs.declared.waiting.Switch.{Switch}
 use Rattle.mc_demux.specs.State.{DemuxState, head_of, forward_of, back_of}
-use Rattle.mc_demux.specs.Selecting.{knows}
+use Rattle.mc_tracks.specs.Selection.{knows}
 
 -- ---- the limits
 
@@ -60,13 +60,18 @@ pub record AreAwaited (set waiting : Choice) (others : List RangeState) : Type 0
 
 -- ---- the job that is kept
 
--- it is the one that is to be done, until its outcome, a seek or a selection comes
+-- it was the one to be done as it was given: its starts are still looked for, or the current range has still no ending and
+-- less ahead of the readers than the limit. Whether it would be given again is another question: readers may have moved
 abbrev pub IsKept : DemuxState → Job → Type 0
 IsKept d (SeekTo n set t dir) = (n ≡ d.number) × (set ≡ d.set) × (d.seeking ≡ Some (record { t = t; dir = dir }))
 IsKept d (Refresh n added lead at) =
     (n ≡ d.number) × (added ≡ d.waiting) × (is_empty added ≡ false) × (d.switch ≡ record { lead = lead; at = at })
-IsKept d (Resume n mark) = (n ≡ d.number) × IsSomeAnd d.cache.current (λ r. (r.mark ≡ mark) × (r.ending ≡ None)) × (d.waiting ≡ nothing) × (forward_of d < d.cache.limits.forward)
-IsKept d (Read n) = (n ≡ d.number) × IsSomeAnd d.cache.current (λ r. r.ending ≡ None) × (d.waiting ≡ nothing) × (forward_of d < d.cache.limits.forward)
+IsKept d (Resume n mark) =
+    (n ≡ d.number) × IsSomeAnd d.cache.current (λ r. (r.mark ≡ mark) × (r.ending ≡ None)) × (d.waiting ≡ nothing)
+    × (forward_of d < d.cache.limits.forward)
+IsKept d (Read n) =
+    (n ≡ d.number) × IsSomeAnd d.cache.current (λ r. r.ending ≡ None) × (d.waiting ≡ nothing)
+    × (forward_of d < d.cache.limits.forward)
 IsKept d Idle = ⊥
 
 -- nothing failed before it, and there is room for its outcome's record and one more

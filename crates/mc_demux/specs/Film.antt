@@ -28,13 +28,14 @@ use Rattle.mc_demux.specs.declared.waiting.Target.{Target}
 use Rattle.mc_demux.specs.declared.waiting.Switch.{Switch}
 use Rattle.mc_demux.specs.declared.waiting.Failure.{Failure}
 use Rattle.mc_demux.specs.declared.waiting.Failure.TheVariants.{Failed, Starved}
+use Rattle.mc_journal.specs.Callers.{demuxer}
 use Rattle.mc_demux.specs.State.{DemuxState, head_of}
-use Rattle.mc_demux.specs.Selecting.{knows}
+use Rattle.mc_tracks.specs.Selection.{knows}
 
 -- the record of a failure
 abbrev pub failure_record : Failure → DemuxRecord
-failure_record (Failed before after) = FailedRecord 5 before after
-failure_record Starved = StarvedRecord 5
+failure_record (Failed before after) = FailedRecord demuxer before after
+failure_record Starved = StarvedRecord demuxer
 
 -- each queue of the current range has a head, at the place from which the journal says that its track is read on
 abbrev pub PlacesAre : Choice → Heads → (ℕ → ℕ) → RangeState → Type 0

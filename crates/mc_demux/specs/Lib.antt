@@ -1,7 +1,9 @@
 -- Each call of a demuxer has a clause `value`, by the definition here that bears its name (`Seeks`, `Selects`, `Asks`,
--- `Finds`, `Feeds`, `Fails`, `Reads`), which fixes its answer and all that it leaves; a clause `demux`, that it leaves a
--- demuxer (`IsDemux`); and a clause `film`: whatever film the demuxer stands for (`StandsFor`), it stands for it afterwards,
--- where what it was handed is of that film (`AreStartsOf`, `IsPartOf`). What an outcome has to be is `BringsStarts`,
+-- `Finds`, `Feeds`, `Fails`, `Reads`, `Shows`). It fixes the answer and what is left: by which steps of the cache (`Goes`,
+-- `Switches`, `PutsStarts`, `PutsPart`, `Gives`), with which records, and that all else stays. Only room is left open: how much
+-- of it a call makes. A clause `grows` says that what was written bears the caller's number (`Grew`); a clause `demux`, that a
+-- demuxer is left (`IsDemux`); and a clause `film`: whatever film the demuxer stands for (`StandsFor`), it stands for it
+-- afterwards, where what it was handed is of that film (`AreStartsOf`, `IsPartOf`). What an outcome has to be is `BringsStarts`,
 -- `BringsPart` and `BringsFailure`.
 pub mod State
 pub mod Jobs

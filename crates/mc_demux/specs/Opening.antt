@@ -15,10 +15,11 @@ use Rattle.mc_journal.specs.Films.{Film, IsFilm}
 use Rattle.mc_range.specs.Range.{IsBegun}
 use Rattle.mc_demux.specs.declared.answer.DemuxError.{DemuxError}
 use Rattle.mc_demux.specs.declared.answer.DemuxError.TheVariants.{Refused, JournalFull, NoMemory}
+use Rattle.mc_journal.specs.Callers.{driver}
 use Rattle.mc_demux.specs.State.{DemuxState}
 use Rattle.mc_demux.specs.Demuxers.{AreLimits}
 use Rattle.mc_demux.specs.Outcomes.{heads_at}
-use Rattle.mc_demux.specs.Selecting.{knows}
+use Rattle.mc_tracks.specs.Selection.{knows}
 
 -- the tracks are listed, each under its kind, and their blocks can be read
 pub record MayOpen (list : List Track) (set : Choice) (limits : Limits) : Type 0 where
@@ -51,7 +52,7 @@ pub record IsOpened (list : List Track) (set : Choice) (limits : Limits) (new : 
     number = 1;
     kept = None;
     fed = false;
-    journal = Opened 0 set ∷ [];
+    journal = Opened driver set ∷ [];
     spare = new.spare;
   }
   pub limits_are : new.cache.limits ≡ limits

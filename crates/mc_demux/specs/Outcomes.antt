@@ -1,19 +1,11 @@
 -- What the outcome of a job is to be, and what is left when it is brought.
-use Rattle.std.specs.Prelude.{◌≡◌, ◌⊎◌, ℕ, ◌+◌, ◌-◌, ◌<◌, ◌^◌, ◌==◌, Bool, true, false, List, [], ◌∷◌, ◌++◌, Option, Some, None, Result, Ok, Err, is_some, IfSome, IsSomeAnd}
-use Rattle.std.specs.Option.{option_map}
+use Rattle.std.specs.Prelude.{◌≡◌, ◌⊎◌, ℕ, ◌+◌, ◌-◌, ◌<◌, ◌^◌, true, false, [], ◌∷◌, ◌++◌, Some, None, Result, Ok, Err, is_some, IsSomeAnd}
 use Rattle.mc_packet.specs.Shape.{HasShape}
 use Rattle.mc_packet.specs.declared.choice.Choice.{Choice}
 use Rattle.mc_packet.specs.declared.choice.Starts.{Starts}
-use Rattle.mc_packet.specs.declared.cache.Heads.{Heads}
-use Rattle.mc_packet.specs.declared.packet.Pos.{Pos}
 use Rattle.mc_packet.specs.declared.walk.Chunk.{Chunk}
-use Rattle.mc_packet.specs.declared.walk.Mark.{Mark}
 use Rattle.mc_journal.specs.declared.record.DemuxRecord.{DemuxRecord}
-use Rattle.mc_journal.specs.declared.record.DemuxRecord.TheVariants.{Found, Fed, Failed, Starved}
-use Rattle.mc_packet.specs.Choices.{or_else, nothing}
 use Rattle.mc_journal.specs.Used.{place_of_starts}
-use Rattle.mc_range.specs.Range.{RangeState, place_at}
-use Rattle.mc_range.specs.Growing.{taker}
 use Rattle.mc_cache.specs.Cache.{mark_in}
 use Rattle.mc_demux.specs.declared.answer.Taken.{Taken}
 use Rattle.mc_demux.specs.declared.answer.Taken.TheVariants.{Taken as WasTaken, Stale}
@@ -24,7 +16,11 @@ use Rattle.mc_demux.specs.declared.job.Job.TheVariants.{SeekTo, Refresh, Resume,
 use Rattle.mc_demux.specs.declared.waiting.Failure.{Failure}
 use Rattle.mc_demux.specs.State.{DemuxState}
 use Rattle.mc_demux.specs.Keeping.{IsAsBefore}
-use Rattle.mc_demux.specs.Records.{HasRoom, IsFull, WroteAll}
+use Rattle.mc_demux.specs.Records.{HasRoom, IsFull}
+use Rattle.mc_demux.specs.Feeding.{PutsPart}
+use Rattle.mc_demux.specs.Finding.{PutsStarts}
+pub use Rattle.mc_demux.specs.Feeding.{is_at, took_in}
+pub use Rattle.mc_demux.specs.Finding.{head_at, heads_at}
 
 -- ---- what fits a job
 
@@ -70,49 +66,6 @@ pub record IsStale (n asked now : ℕ) (old new : DemuxState) : Type 0 where
   pub now_is : now ≡ old.number
   pub same : new ≡ old
 
-abbrev pub head_at : Option ℕ → Option Pos → Option Pos
-head_at start head = or_else (option_map place_at start) head
-
--- the heads of tracks whose start was found are there
-abbrev pub heads_at : Starts → Heads → Heads
-heads_at starts heads = record { video = head_at starts.video heads.video; audio = head_at starts.audio heads.audio; sub = head_at starts.sub heads.sub }
-
-pub record FoundOn (starts : Starts) (old new : DemuxState) : Type 0 where
-  pub changed : new ≡ record old {
-    cache = new.cache;
-    heads = heads_at starts old.heads;
-    seeking = None;
-    waiting = nothing;
-    number = old.number + 1;
-    kept = None;
-    fed = false;
-    journal = new.journal;
-    spare = new.spare;
-  }
-  pub limits_are : new.cache.limits ≡ old.cache.limits
-  pub wrote : WroteAll 5 (Found 5 starts ∷ []) old.journal new.journal
-
-abbrev pub took_in : Chunk → Option RangeState → Option ℕ
-took_in chunk None = None
-took_in chunk (Some r) = taker chunk.packets r.queues
-
--- a range is read on from the mark
-abbrev pub is_at : Mark → Option Mark → Bool
-is_at mark None = false
-is_at mark (Some m) = m.pos == mark.pos
-
-pub record FedOn (chunk : Chunk) (old new : DemuxState) : Type 0 where
-  pub changed : new ≡ record old {
-    cache = new.cache;
-    number = old.number + 1;
-    kept = None;
-    fed = is_at chunk.to (mark_in new.cache.current);
-    journal = new.journal;
-    spare = new.spare;
-  }
-  pub limits_are : new.cache.limits ≡ old.cache.limits
-  pub wrote : WroteAll 5 (Fed 5 chunk.from chunk.to (took_in chunk old.cache.current) chunk.ending ∷ []) old.journal new.journal
-
 -- it stands since then that nothing is read on
 abbrev pub failed_on : Failure → DemuxRecord → DemuxState → DemuxState
 failed_on failure own old = record old {
@@ -125,14 +78,14 @@ failed_on failure own old = record old {
 }
 
 abbrev pub Finds : ℕ → Starts → DemuxState → Result Taken DemuxError → DemuxState → Type 0
-Finds n starts old (Ok WasTaken) new = HasRoom old.journal × (n ≡ old.number) × FoundOn starts old new
+Finds n starts old (Ok WasTaken) new = HasRoom old.journal × (n ≡ old.number) × PutsStarts starts old new
 Finds n starts old (Ok (Stale asked now)) new = HasRoom old.journal × IsStale n asked now old new
 Finds n starts old (Err (Refused why)) new = ⊥
 Finds n starts old (Err JournalFull) new = IsFull old.journal × (new ≡ old)
 Finds n starts old (Err NoMemory) new = HasRoom old.journal × IsAsBefore old new
 
 abbrev pub Feeds : ℕ → Chunk → DemuxState → Result Taken DemuxError → DemuxState → Type 0
-Feeds n chunk old (Ok WasTaken) new = HasRoom old.journal × (n ≡ old.number) × FedOn chunk old new
+Feeds n chunk old (Ok WasTaken) new = HasRoom old.journal × (n ≡ old.number) × PutsPart chunk old new
 Feeds n chunk old (Ok (Stale asked now)) new = HasRoom old.journal × IsStale n asked now old new
 Feeds n chunk old (Err (Refused why)) new = ⊥
 Feeds n chunk old (Err JournalFull) new = IsFull old.journal × (new ≡ old)

@@ -100,21 +100,26 @@ abbrev pub ended_after : ℕ → Reading → DemuxState → Choice
 ended_after track (End ending) d = with_track d.set track d.ended
 ended_after track _ d = d.ended
 
--- the record stands behind the journal, the heads and the told ends are these, and packets went as the limit asks
+-- An answer that is told. By steps: its record stands behind the journal, and then packets went as the limit asks. In all:
+-- the heads and the told ends are these, and the rest stays
 pub record Gives (by : ℕ) (own : DemuxRecord) (heads : Heads) (ended : Choice) (old new : DemuxState) : Type 0 where
-  pub changed : new ≡ record old { cache = new.cache; heads = heads; ended = ended; journal = new.journal; spare = new.spare }
   pub trims : Trims by heads old.cache (old.journal ++ own ∷ []) new.cache new.journal
-
--- behind an answer with a record the journal has it, the head is past a packet that was given, an end is remembered, and
--- packets went as the limit asks; other answers change nothing
-pub record ReadOn (by track : ℕ) (reading : Reading) (own : DemuxRecord) (old new : DemuxState) : Type 0 where
-  pub changed : new ≡ record old { cache = new.cache; heads = heads_after track reading old; ended = ended_after track reading old; journal = new.journal; spare = new.spare }
+  pub changed : new ≡ record old {
+    cache = new.cache;
+    heads = heads;
+    ended = ended;
+    journal = new.journal;
+    spare = new.spare;
+  }
   pub limits_are : new.cache.limits ≡ old.cache.limits
   pub wrote : Wrote by own old.journal new.journal
 
+-- behind an answer with a record the head is past a packet that was given, and an end is remembered; other answers change
+-- nothing
 abbrev pub ReadsWith : ℕ → ℕ → Reading → Option DemuxRecord → DemuxState → DemuxState → Type 0
 ReadsWith by track reading None old new = new ≡ old
-ReadsWith by track reading (Some own) old new = ReadOn by track reading own old new
+ReadsWith by track reading (Some own) old new =
+    Gives by own (heads_after track reading old) (ended_after track reading old) old new
 
 abbrev pub Reads : ℕ → ℕ → DemuxState → Result Reading DemuxError → DemuxState → Type 0
 Reads by track old (Ok reading) new =

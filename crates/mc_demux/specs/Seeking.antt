@@ -15,7 +15,7 @@ use Rattle.mc_cache.specs.Changing.{IsChosen, IsLeft, heads_in, server}
 use Rattle.mc_demux.specs.declared.answer.DemuxError.{DemuxError}
 use Rattle.mc_demux.specs.declared.answer.DemuxError.TheVariants.{Refused, JournalFull, NoMemory}
 use Rattle.mc_demux.specs.declared.waiting.Target.{Target}
-use Rattle.mc_demux.specs.State.{DemuxState}
+use Rattle.mc_demux.specs.State.{DemuxState, renewed}
 use Rattle.mc_demux.specs.Keeping.{IsAsBefore}
 use Rattle.mc_demux.specs.Records.{HasRoom, IsFull, Wrote}
 use Rattle.mc_demux.specs.Trimming.{Trims}
@@ -45,54 +45,35 @@ heads_or heads (Some found) = found
 abbrev pub heads_after : ℤ → Dir → DemuxState → Heads
 heads_after t dir d = heads_or d.heads (heads_in d.set t dir (server d.set t dir d.cache))
 
--- nothing waits, nothing failed, no end was told, and what a job brings under an older number is stale
-pub record SoughtOn (by : ℕ) (t : ℤ) (dir : Dir) (how : How) (old new : DemuxState) : Type 0 where
-  pub changed : new ≡ record old {
-    cache = new.cache;
-    heads = heads_after t dir old;
-    seeking = target_after t dir how;
-    waiting = nothing;
-    failure = None;
-    ended = nothing;
-    number = old.number + 1;
-    kept = None;
-    fed = false;
-    journal = new.journal;
-    spare = new.spare;
-  }
-  pub limits_are : new.cache.limits ≡ old.cache.limits
-  pub wrote : Wrote by (Sought by old.set t dir how) old.journal new.journal
-
-abbrev pub Seeks : ℕ → ℤ → Dir → DemuxState → Result How DemuxError → DemuxState → Type 0
-Seeks by t dir old (Ok how) new = HasRoom old.journal × (is_empty old.set ≡ false) × (how ≡ how_of t dir old) × SoughtOn by t dir how old new
-Seeks by t dir old (Err (Refused why)) new = HasRoom old.journal × (is_empty old.set ≡ true) × (why ≡ NoTrack) × IsRefused by why old new
-Seeks by t dir old (Err JournalFull) new = IsFull old.journal × (new ≡ old)
-Seeks by t dir old (Err NoMemory) new = HasRoom old.journal × IsAsBefore old new
-
--- ---- by steps
-
 -- the cache turns to the range that serves, or leaves the one that is current
 abbrev pub Turns : Choice → ℤ → Dir → How → CacheState → CacheState → Type 0
 Turns set t dir Cached old new = IsChosen set t dir old new
 Turns set t dir Sent old new = IsLeft old new
 
--- the record stands behind the journal, and behind it packets went as the limit asks
+-- A seek that is carried out. By steps: the cache turns, the record stands behind the journal, and behind it packets went as
+-- the limit asks. In all: the heads are those of the range that serves, nothing waits, nothing failed, no end was told, and
+-- what a job brings under an older number is stale
 pub record Goes (by : ℕ) (t : ℤ) (dir : Dir) (how : How) (old new : DemuxState) : Type 0 where
   pub turned : CacheState
   pub is_cache : IsCache turned
   pub turns : Turns old.set t dir how old.cache turned
   pub how_is : how ≡ how_of t dir old
-  pub trims : Trims by (heads_after t dir old) turned (old.journal ++ Sought by old.set t dir how ∷ []) new.cache new.journal
-  pub changed : new ≡ record old {
-    cache = new.cache;
+  pub trims :
+      Trims by (heads_after t dir old) turned (old.journal ++ Sought by old.set t dir how ∷ []) new.cache new.journal
+  pub changed : new ≡ record (renewed false new old) {
     heads = heads_after t dir old;
     seeking = target_after t dir how;
     waiting = nothing;
     failure = None;
     ended = nothing;
-    number = old.number + 1;
-    kept = None;
-    fed = false;
-    journal = new.journal;
-    spare = new.spare;
   }
+  pub limits_are : new.cache.limits ≡ old.cache.limits
+  pub wrote : Wrote by (Sought by old.set t dir how) old.journal new.journal
+
+abbrev pub Seeks : ℕ → ℤ → Dir → DemuxState → Result How DemuxError → DemuxState → Type 0
+Seeks by t dir old (Ok how) new =
+    HasRoom old.journal × (is_empty old.set ≡ false) × (how ≡ how_of t dir old) × Goes by t dir how old new
+Seeks by t dir old (Err (Refused why)) new =
+    HasRoom old.journal × (is_empty old.set ≡ true) × (why ≡ NoTrack) × IsRefused by why old new
+Seeks by t dir old (Err JournalFull) new = IsFull old.journal × (new ≡ old)
+Seeks by t dir old (Err NoMemory) new = HasRoom old.journal × IsAsBefore old new

@@ -1,5 +1,5 @@
 -- A demuxer as contracts see it, and what is read off it.
-use Rattle.std.specs.Prelude.{◌≡◌, ℕ, Bool, if◌then◌else◌, List, [], ◌∷◌, ◌++◌, length, Option, Some, None, IfSome, IsSomeAnd, is_some, ⊤}
+use Rattle.std.specs.Prelude.{◌≡◌, ℕ, ◌+◌, Bool, if◌then◌else◌, List, [], ◌∷◌, ◌++◌, length, Option, Some, None, IfSome, IsSomeAnd, is_some, ⊤}
 use Rattle.std.specs.List.{find}
 use Rattle.mc_packet.specs.declared.packet.Packet.{Packet}
 use Rattle.mc_packet.specs.declared.packet.Pos.{Pos}
@@ -41,6 +41,18 @@ pub record DemuxState : Type 0 where
   pub fed : Bool
   pub journal : List DemuxRecord
   pub spare : ℕ
+
+-- what a seek, a selection or an outcome that is taken ends: no job is kept, the next one bears the next number, and `fed`
+-- tells whether it reads on behind the last part. The cache, the journal and its room are those of `new`
+abbrev pub renewed : Bool → DemuxState → DemuxState → DemuxState
+renewed fed new old = record old {
+  cache = new.cache;
+  number = old.number + 1;
+  kept = None;
+  fed = fed;
+  journal = new.journal;
+  spare = new.spare;
+}
 
 -- ---- what stands at a track's head
 

@@ -1,5 +1,5 @@
 //! The job that is to be done next.
-ghost use Rattle.std.specs.Prelude.{◌≡◌, ◌≤◌, OnOk};
+ghost use Rattle.std.specs.Prelude.{◌≡◌, ◌≤◌, ℕ, OnOk};
 ghost use Rattle.mc_packet.specs.Choices.{is_empty};
 ghost use Rattle.mc_journal.specs.Films.{Film};
 ghost use Rattle.mc_demux.specs.Asking.{Asks};
@@ -8,6 +8,7 @@ ghost use Rattle.mc_demux.specs.Film.{StandsFor};
 ghost use Rattle.mc_demux.specs.Jobs.{job_of, kept_job, read_at, read_job, start_job};
 ghost use Rattle.mc_demux.specs.Keeping.{IsRoomy};
 ghost use Rattle.mc_demux.specs.Marks.{AreAmong, marks_of};
+ghost use Rattle.mc_journal.specs.Callers.{Grew};
 
 use crate::answer::DemuxError;
 use crate::demux::Demux;
@@ -110,13 +111,16 @@ impl Demux {
         self.kept = kept_job(job);
     }
 
-    /// The job that is to be done next. It is kept until its outcome is brought, or a seek or a
-    /// selection comes; asked again before that, the same is answered. `Idle` where no track is
-    /// selected, after a job that came to nothing, and where enough is read ahead. Refused with
-    /// `JournalFull` exactly where the journal has 16,000,000 records, and with `NoMemory` where
-    /// there is no room for the outcome's record; nothing changes then but room.
+    /// The job that is to be done next. It is kept until its outcome is brought, a seek or a
+    /// selection comes, or another one is asked for; `Idle` is not kept. Asked again before that, a
+    /// search for starts (`SeekTo`, `Refresh`) is answered again; a read may be `Idle` then, since
+    /// readers moved. `Idle` where no track is selected, after a job that came to nothing, and where
+    /// enough is read ahead. Nothing is written. Refused with `JournalFull` exactly where the journal
+    /// has 16,000,000 records, and with `NoMemory` where there is no room for the outcome's record;
+    /// nothing changes then but room.
     pub fn next_job(&mut self) -> Result<Job, DemuxError>
         ensures value { Asks self.old result self.new }
+        ensures grows { (by : ℕ) → Grew by self.old.journal self.new.journal }
         ensures film { (film : Film) → StandsFor film self.old → StandsFor film self.new }
         ensures marks { AreAmong (marks_of self.old.cache) self.new.cache }
         ensures demux { IsDemux self.new }

@@ -3,7 +3,7 @@ ghost use Rattle.std.specs.Prelude.{◌≡◌, [], not, find, take, is_some, opt
 ghost use Rattle.std.specs.List.{list_any};
 ghost use Rattle.std.specs.Option.{option_copied};
 ghost use Rattle.mc_tracks.specs.TrackList.{is_of, numbered};
-ghost use Rattle.mc_demux.specs.Selecting.{choice_of, first_twin, is_coded, is_listed_as, is_twin, refusal_of};
+ghost use Rattle.mc_tracks.specs.Selection.{choice_of, first_twin, is_coded, is_listed_as, is_twin, refusal_of};
 
 use mc_packet::{Choice, Kind, TrackNo, Why};
 use mc_tracks::TrackList;
@@ -80,7 +80,8 @@ fn first_coded<'a>(list: &TrackList, numbers: &'a [TrackNo]) -> Option<&'a Track
 }
 
 fn first_of<'a>(list: &TrackList, kind: Kind, numbers: &'a [TrackNo]) -> Option<&'a TrackNo>
-    ensures { option_copied result ≡ find (λ n. is_listed_as kind (numbered n list.now)) numbers.now }
+    ensures { option_copied result
+        ≡ find (λ n. is_listed_as kind (numbered n list.now)) numbers.now }
 {
     numbers.iter().find(|no| is_listed_as(list, kind, **no))
 }

@@ -19,18 +19,40 @@ pub type DemuxJournal = Vec<DemuxRecord>;
 /// journal of all that happened.
 #[derive(Drop)]
 pub struct Demux {
+    /// The film's tracks, since the opening.
     pub(crate) list: TrackList,
+    /// The packets that are held. Outcomes, seeks and selections change it; each call that moves a
+    /// reader or brings packets drops of it as the limit asks.
     pub(crate) cache: Cache,
+    /// The selected tracks. A selection writes it.
     pub(crate) set: Choice,
+    /// Where the reader of each kind stands in the current range. A read moves it behind the packet
+    /// that it gave, a seek that is served to where the range is read from, found starts to those.
     pub(crate) heads: Heads,
+    /// Where a seek goes that was sent. A seek writes it; found starts and a seek that is served
+    /// take it away.
     pub(crate) seeking: Option<Target>,
+    /// The selected tracks that have no queue yet. A selection writes them; found starts and a seek
+    /// take them away.
     pub(crate) waiting: Choice,
+    /// The last selection. It writes this.
     pub(crate) switch: Switch,
+    /// What the last job came to, where it came to nothing. `failed` and `starved` write it; a seek
+    /// and a selection take it away.
     pub(crate) failure: Option<Failure>,
+    /// The tracks whose reader was told the end. A read writes them; a seek and a selection take
+    /// them away.
     pub(crate) ended: Choice,
+    /// The number of the next job, from 1. A seek, a selection that changes the set and each outcome
+    /// that is taken raise it by 1.
     pub(crate) number: u64,
+    /// The job that was given last, where its outcome is awaited. `next_job` writes it; whatever
+    /// raises the number takes it away.
     pub(crate) kept: Option<Job>,
+    /// Whether the last outcome was a part of the film that ends where the current range is read on.
+    /// An outcome writes it; a seek and a selection take it away.
     pub(crate) fed: bool,
+    /// All that happened, the oldest record first. Each call writes behind it.
     pub(crate) journal: DemuxJournal,
 }
 
@@ -41,9 +63,39 @@ impl Model for Demux {
 
     ghost Value = { DemuxState };
 
-    ghost view = { λ d. record { list = d.list; cache = d.cache; set = d.set; heads = d.heads; seeking = d.seeking; waiting = d.waiting; switch = d.switch; failure = d.failure; ended = d.ended; number = d.number; kept = d.kept; fed = d.fed; journal = d.journal.items; spare = vec_capacity d.journal - length d.journal.items } };
+    ghost view = { λ d. record {
+      list = d.list;
+      cache = d.cache;
+      set = d.set;
+      heads = d.heads;
+      seeking = d.seeking;
+      waiting = d.waiting;
+      switch = d.switch;
+      failure = d.failure;
+      ended = d.ended;
+      number = d.number;
+      kept = d.kept;
+      fed = d.fed;
+      journal = d.journal.items;
+      spare = vec_capacity d.journal - length d.journal.items;
+    } };
 
-    ghost invariant = { λ d. IsDemux (record { list = d.list; cache = d.cache; set = d.set; heads = d.heads; seeking = d.seeking; waiting = d.waiting; switch = d.switch; failure = d.failure; ended = d.ended; number = d.number; kept = d.kept; fed = d.fed; journal = d.journal.items; spare = vec_capacity d.journal - length d.journal.items }) };
+    ghost invariant = { λ d. IsDemux (record {
+      list = d.list;
+      cache = d.cache;
+      set = d.set;
+      heads = d.heads;
+      seeking = d.seeking;
+      waiting = d.waiting;
+      switch = d.switch;
+      failure = d.failure;
+      ended = d.ended;
+      number = d.number;
+      kept = d.kept;
+      fed = d.fed;
+      journal = d.journal.items;
+      spare = vec_capacity d.journal - length d.journal.items;
+    }) };
 }
 
 impl Demux {

@@ -10,12 +10,13 @@ ghost use Rattle.mc_demux.specs.Film.{IsPartOf, StandsFor};
 ghost use Rattle.mc_demux.specs.Keeping.{IsAsBefore};
 ghost use Rattle.mc_demux.specs.Marks.{AreAmong, marks_of};
 ghost use Rattle.mc_demux.specs.Outcomes.{BringsPart, Feeds, PartFits, is_at};
+ghost use Rattle.mc_journal.specs.Callers.{Grew, demuxer};
 
 use crate::answer::{DemuxError, Taken};
 use crate::demux::Demux;
 use crate::joining::settle;
 use crate::reading::FULL;
-use mc_journal::DemuxRecord;
+use mc_journal::{DEMUXER, DemuxRecord};
 use mc_packet::{Chunk, Mark, NoMemory};
 
 /// Whether a range is read on from this mark.
@@ -60,13 +61,13 @@ impl Demux {
         } = chunk;
         let took = self.cache.feed(chunk)?;
         self.journal.push_reserved(DemuxRecord::Fed {
-            by: 5,
+            by: DEMUXER,
             from,
             to,
             took,
             ending,
         });
-        settle(5, &mut self.cache, &self.heads, &mut self.journal);
+        settle(DEMUXER, &mut self.cache, &self.heads, &mut self.journal);
         self.number += 1;
         self.kept = None;
         self.fed = is_at(to, self.cache.mark());
@@ -83,7 +84,9 @@ impl Demux {
     pub fn feed(&mut self, no: u64, chunk: Chunk) -> Result<Taken, DemuxError>
         requires brought { BringsPart no chunk self.old }
         ensures value { Feeds no chunk self.old result self.new }
-        ensures film { (film : Film) → IsPartOf film chunk → StandsFor film self.old → StandsFor film self.new }
+        ensures grows { Grew demuxer self.old.journal self.new.journal }
+        ensures film { (film : Film) → IsPartOf film chunk
+            → StandsFor film self.old → StandsFor film self.new }
         ensures marks { AreAmong (chunk.to ∷ marks_of self.old.cache) self.new.cache }
         ensures demux { IsDemux self.new }
     {

@@ -11,6 +11,7 @@ ghost use Rattle.mc_demux.specs.Film.{AreStartsOf, StandsFor};
 ghost use Rattle.mc_demux.specs.Finding.{AddsOne, AddsTracks, Begins, BeginsRange, IsReadyToBegin, MayAddAll, MayAddOne, TakesStarts};
 ghost use Rattle.mc_demux.specs.Keeping.{IsAsBefore};
 ghost use Rattle.mc_demux.specs.Marks.{AreAmong, marks_of};
+ghost use Rattle.mc_journal.specs.Callers.{Grew, demuxer};
 ghost use Rattle.mc_demux.specs.Outcomes.{BringsStarts, Finds, StartsFit, head_at, heads_at};
 
 use crate::answer::{DemuxError, Taken};
@@ -18,7 +19,7 @@ use crate::demux::{Demux, DemuxJournal};
 use crate::joining::{settle, tell_drops};
 use crate::reading::FULL;
 use mc_cache::Cache;
-use mc_journal::DemuxRecord;
+use mc_journal::{DEMUXER, DemuxRecord};
 use mc_packet::{Choice, Heads, Kind, Mark, NoMemory, Pos, Starts, TrackNo};
 
 const NOTHING: Choice = Choice {
@@ -53,6 +54,7 @@ fn add_one(cache: &mut Cache, kind: Kind, track: Option<TrackNo>, start: Option<
     ensures value { AddsOne kind track start mark cache.old cache.new }
     ensures cache { IsCache cache.new }
 {
+    // for the proof alone: it says what is true of every cache
     let _mark = cache.mark();
     if let (Some(track), Some(start)) = (track, start) {
         cache.add_track(kind, track, start, mark);
@@ -78,25 +80,31 @@ fn begin_range(
     starts: &Starts,
     journal: &mut DemuxJournal,
 ) -> Result<(), NoMemory>
+    // no range is current, and the starts are of these tracks
     requires none { cache.old.current ≡ None }
     requires distinct { is_distinct set ≡ true }
     requires at_mark { AreAtMark starts.now }
+    // the journal has room for what is told
     requires room { vec_len journal.old + 4 ≤ vec_capacity journal.old }
-    ensures ok { OnOk result (BeginsRange set starts.now cache.old journal.old.items cache.new journal.new.items) }
+    // what is left, and told
+    ensures ok { OnOk result
+        (BeginsRange set starts.now cache.old journal.old.items cache.new journal.new.items) }
     ensures err { OnErr result (IsSameButRoom cache.old cache.new) }
     ensures untold { OnErr result (journal.new ≡ journal.old) }
+    // how much room is left, and that joins can follow
     ensures len { vec_len journal.new ≤ vec_len journal.old + 4 }
     ensures capacity { vec_capacity journal.new ≡ vec_capacity journal.old }
     ensures joins { OnOk result (IsPrepared set starts.now cache.old → HasRoomToJoin cache.new) }
     ensures cache { IsCache cache.new }
 {
+    // for the proof alone: it says what is true of every cache
     let _mark = cache.mark();
     let drops = cache.start_range(set, starts)?;
     journal.push_reserved(DemuxRecord::Found {
-        by: 5,
+        by: DEMUXER,
         starts: *starts,
     });
-    tell_drops(5, &drops, journal);
+    tell_drops(DEMUXER, &drops, journal);
     Ok(())
 }
 
@@ -110,16 +118,22 @@ fn begin(
     starts: &Starts,
     journal: &mut DemuxJournal,
 ) -> Result<(), NoMemory>
+    // the starts are of these tracks, and the current range, if there is one, may take them
     requires distinct { is_distinct set ≡ true }
     requires at_mark { AreAtMark starts.now }
     requires may { IfSome cache.old.current (λ r. MayAddAll added starts.now cache.old) }
+    // the journal has room for what is told
     requires room { vec_len journal.old + 4 ≤ vec_capacity journal.old }
-    ensures ok { OnOk result (Begins set added starts.now cache.old journal.old.items cache.new journal.new.items) }
+    // what is left, and told
+    ensures ok { OnOk result
+        (Begins set added starts.now cache.old journal.old.items cache.new journal.new.items) }
     ensures err { OnErr result (IsSameButRoom cache.old cache.new) }
     ensures untold { OnErr result (journal.new ≡ journal.old) }
+    // how much room is left, and that joins can follow
     ensures len { vec_len journal.new ≤ vec_len journal.old + 4 }
     ensures capacity { vec_capacity journal.new ≡ vec_capacity journal.old }
-    ensures joins { OnOk result (IsReadyToBegin set starts.now cache.old.current cache.old → HasRoomToJoin cache.new) }
+    ensures joins { OnOk result
+        (IsReadyToBegin set starts.now cache.old.current cache.old → HasRoomToJoin cache.new) }
     ensures cache { IsCache cache.new }
 {
     if cache.mark().is_none() {
@@ -127,7 +141,7 @@ fn begin(
     }
     add_tracks(cache, added, starts);
     journal.push_reserved(DemuxRecord::Found {
-        by: 5,
+        by: DEMUXER,
         starts: *starts,
     });
     Ok(())
@@ -138,7 +152,8 @@ impl Demux {
     fn make_room_to_find(&mut self, starts: &Starts) -> Result<(), NoMemory>
         requires kept { IsSomeAnd self.old.kept (StartsFit starts.now) }
         ensures same { IsAsBefore self.old self.new }
-        ensures ready { OnOk result (IfNone self.new.cache.current (IsPrepared self.new.set starts.now self.new.cache)) }
+        ensures ready { OnOk result
+            (IfNone self.new.cache.current (IsPrepared self.new.set starts.now self.new.cache)) }
         ensures room { OnOk result (count_of (ranges_of self.new.cache) + 320 ≤ self.new.spare) }
         ensures demux { IsDemux self.new }
     {
@@ -152,7 +167,8 @@ impl Demux {
     /// Takes the starts, tells of them, joins, and drops packets as the limit asks.
     fn take_starts(&mut self, starts: &Starts) -> Result<(), NoMemory>
         requires kept { IsSomeAnd self.old.kept (StartsFit starts.now) }
-        requires ready { IfNone self.old.cache.current (IsPrepared self.old.set starts.now self.old.cache) }
+        requires ready { IfNone self.old.cache.current
+            (IsPrepared self.old.set starts.now self.old.cache) }
         requires room { count_of (ranges_of self.old.cache) + 320 ≤ self.old.spare }
         ensures ok { OnOk result (TakesStarts starts.now self.old self.new) }
         ensures err { OnErr result (IsAsBefore self.old self.new) }
@@ -166,7 +182,7 @@ impl Demux {
             &mut self.journal,
         )?;
         self.heads = heads_at(starts, self.heads);
-        settle(5, &mut self.cache, &self.heads, &mut self.journal);
+        settle(DEMUXER, &mut self.cache, &self.heads, &mut self.journal);
         self.seeking = None;
         self.waiting = NOTHING;
         self.number += 1;
@@ -187,7 +203,10 @@ impl Demux {
     pub fn found(&mut self, no: u64, starts: Starts) -> Result<Taken, DemuxError>
         requires brought { BringsStarts no starts self.old }
         ensures value { Finds no starts self.old result self.new }
-        ensures film { (film : Film) → (no ≡ self.old.number → IfSome self.old.kept (AreStartsOf film starts)) → StandsFor film self.old → StandsFor film self.new }
+        ensures grows { Grew demuxer self.old.journal self.new.journal }
+        ensures film { (film : Film)
+            → (no ≡ self.old.number → IfSome self.old.kept (AreStartsOf film starts))
+            → StandsFor film self.old → StandsFor film self.new }
         ensures marks { AreAmong (starts.mark ∷ marks_of self.old.cache) self.new.cache }
         ensures demux { IsDemux self.new }
     {

@@ -38,14 +38,18 @@ pub(crate) fn tell_drops(by: u32, drops: &Drops, journal: &mut DemuxJournal)
 /// Joins the current range with each other one that touches it, and tells each join.
 #[tactic(auto, using(crate::proofs::Roomy::tied_up))]
 fn join(by: u32, cache: &mut Cache, journal: &mut DemuxJournal)
+    // there is room for the joins and for what is told of them
     requires joins { HasRoomToJoin cache.old }
     requires room { vec_len journal.old + 30 ≤ vec_capacity journal.old }
+    // what is left, and told
     ensures value { TellsJoins by cache.old journal.old.items cache.new journal.new.items }
+    // how much room is left
     ensures len { vec_len journal.new ≤ vec_len journal.old + 30 }
     ensures capacity { vec_capacity journal.new ≡ vec_capacity journal.old }
     ensures fewer { count_of (ranges_of cache.new) ≤ count_of (ranges_of cache.old) }
     ensures cache { IsCache cache.new }
 {
+    // for the proof alone: it says what is true of every cache
     let _limits = cache.limits();
     if let Ok(joins) = cache.join_current() {
         tell_joins(by, joins.joined, journal);
@@ -57,7 +61,8 @@ fn join(by: u32, cache: &mut Cache, journal: &mut DemuxJournal)
 /// asks. Each join and each drop is told.
 pub(crate) fn settle(by: u32, cache: &mut Cache, heads: &Heads, journal: &mut DemuxJournal)
     requires joins { HasRoomToJoin cache.old }
-    requires room { vec_len journal.old + count_of (ranges_of cache.old) + 32 ≤ vec_capacity journal.old }
+    requires room { vec_len journal.old + count_of (ranges_of cache.old) + 32
+        ≤ vec_capacity journal.old }
     ensures value { Settles by heads.now cache.old journal.old.items cache.new journal.new.items }
     ensures within { back_of heads.now cache.new ≤ cache.new.limits.back }
     ensures room { vec_len journal.new + 2 ≤ vec_capacity journal.new }

@@ -15,7 +15,7 @@ use crate::demux::Demux;
 use crate::seek::nothing;
 use crate::waiting::Switch;
 use mc_cache::Cache;
-use mc_journal::DemuxRecord;
+use mc_journal::{DRIVER, DemuxRecord};
 use mc_packet::{Choice, Heads, Level, Limits, Mark, NoMemory, Pos, Starts, TrackNo};
 use mc_tracks::TrackList;
 use std::alloc::Global;
@@ -101,7 +101,7 @@ impl Demux {
         let starts = first_starts(set);
         let cache = first_cache(alloc, set, limits, &starts)?;
         let mut journal = Vec::with_capacity(alloc, 64)?;
-        journal.push_reserved(DemuxRecord::Opened { by: 0, set });
+        journal.push_reserved(DemuxRecord::Opened { by: DRIVER, set });
         Ok(Demux {
             list,
             cache,

@@ -6,22 +6,23 @@ ghost use Rattle.mc_demux.specs.Demuxers.{IsDemux};
 ghost use Rattle.mc_demux.specs.Outcomes.{BringsFailure, Fails, HasRisen, failed_on};
 ghost use Rattle.mc_demux.specs.Film.{StandsFor, failure_record};
 ghost use Rattle.mc_demux.specs.Marks.{AreAmong, marks_of};
+ghost use Rattle.mc_journal.specs.Callers.{Grew, demuxer};
 
 use crate::answer::Taken;
 use crate::demux::Demux;
 use crate::waiting::Failure;
-use mc_journal::DemuxRecord;
+use mc_journal::{DEMUXER, DemuxRecord};
 
 fn failure_record(failure: Failure) -> DemuxRecord
     ensures { result ≡ failure_record failure }
 {
     match failure {
         Failure::Failed { before, after } => DemuxRecord::Failed {
-            by: 5,
+            by: DEMUXER,
             before,
             after,
         },
-        Failure::Starved => DemuxRecord::Starved { by: 5 },
+        Failure::Starved => DemuxRecord::Starved { by: DEMUXER },
     }
 }
 
@@ -33,7 +34,9 @@ impl Demux {
     pub fn failed(&mut self, no: u64, before: u64, after: u64) -> Taken
         requires brought { BringsFailure no self.old }
         requires risen { HasRisen before after }
-        ensures value { Fails no (Failed before after) (FailedRecord 5 before after) self.old result self.new }
+        ensures value { Fails no (Failed before after) (FailedRecord demuxer before after)
+            self.old result self.new }
+        ensures grows { Grew demuxer self.old.journal self.new.journal }
         ensures film { (film : Film) → StandsFor film self.old → StandsFor film self.new }
         ensures marks { AreAmong (marks_of self.old.cache) self.new.cache }
         ensures demux { IsDemux self.new }
@@ -51,7 +54,8 @@ impl Demux {
     /// The same where memory was wanting.
     pub fn starved(&mut self, no: u64) -> Taken
         requires brought { BringsFailure no self.old }
-        ensures value { Fails no Starved (StarvedRecord 5) self.old result self.new }
+        ensures value { Fails no Starved (StarvedRecord demuxer) self.old result self.new }
+        ensures grows { Grew demuxer self.old.journal self.new.journal }
         ensures film { (film : Film) → StandsFor film self.old → StandsFor film self.new }
         ensures marks { AreAmong (marks_of self.old.cache) self.new.cache }
         ensures demux { IsDemux self.new }

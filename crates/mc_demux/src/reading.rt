@@ -10,6 +10,7 @@ ghost use Rattle.mc_demux.specs.Readings.{Gives, IsBelow, Reads, ended_after, he
 ghost use Rattle.mc_demux.specs.Keeping.{IsRoomy};
 ghost use Rattle.mc_demux.specs.Film.{StandsFor};
 ghost use Rattle.mc_demux.specs.Marks.{AreAmong, marks_of};
+ghost use Rattle.mc_journal.specs.Callers.{Grew};
 
 use crate::answer::{DemuxError, Peek, Reading};
 use crate::demux::Demux;
@@ -184,7 +185,8 @@ impl Demux {
 
     /// The packet of a track at its head.
     fn next(&self, track: TrackNo) -> Option<&Packet>
-        ensures value { option_copied result ≡ next_in self.now.set self.now.heads track self.now.cache.current }
+        ensures value { option_copied result
+            ≡ next_in self.now.set self.now.heads track self.now.cache.current }
         ensures below { IfSome (option_copied result) (λ p. rank p.pos + 1 < 2 ^ 80) }
     {
         match head_of(self.set, &self.heads, track) {
@@ -208,7 +210,8 @@ impl Demux {
     /// What a reader is told where no packet is at its head.
     fn past_packets(&self, track: TrackNo) -> Reading
         requires selected { has self.now.set track ≡ true }
-        ensures value { result ≡ past_packets (end_in track self.now.cache.current) self.now.failure (forward_of self.now) self.now.cache.limits.forward }
+        ensures value { result ≡ past_packets (end_in track self.now.cache.current)
+            self.now.failure (forward_of self.now) self.now.cache.limits.forward }
     {
         match self.end_of(track) {
             Some(ending) => Reading::End(ending),
@@ -265,7 +268,8 @@ impl Demux {
     /// Writes a record, moves the heads, and drops packets as the limit asks.
     fn give(&mut self, by: u32, own: DemuxRecord, heads: Heads, ended: Choice)
         requires room { count_of (ranges_of self.old.cache) + 3 ≤ self.old.spare }
-        requires placed { IsPlaced self.old.set heads self.old.waiting self.old.seeking self.old.cache.current }
+        requires placed { IsPlaced
+            self.old.set heads self.old.waiting self.old.seeking self.old.cache.current }
         requires ahead { ahead_in heads self.old.cache.current ≤ forward_of self.old }
         ensures value { Gives by own heads ended self.old self.new }
         ensures demux { IsDemux self.new }
@@ -286,7 +290,9 @@ impl Demux {
     ) -> Result<(), NoMemory>
         requires answer { reading.now ≡ reading_of track self.old }
         requires below { IsBelow reading.now }
-        ensures ok { OnOk result (Gives by own (heads_after track reading.now self.old) (ended_after track reading.now self.old) self.old self.new) }
+        ensures ok { OnOk result (Gives by own
+            (heads_after track reading.now self.old) (ended_after track reading.now self.old)
+            self.old self.new) }
         ensures err { OnErr result (IsRoomy self.old self.new) }
         ensures demux { IsDemux self.new }
     {
@@ -305,6 +311,7 @@ impl Demux {
     /// where the journal has 16,000,000 records, and with `NoMemory`, and changes nothing then.
     pub fn read(&mut self, by: u32, track: TrackNo) -> Result<Reading, DemuxError>
         ensures value { Reads by track self.old result self.new }
+        ensures grows { Grew by self.old.journal self.new.journal }
         ensures film { (film : Film) → StandsFor film self.old → StandsFor film self.new }
         ensures marks { AreAmong (marks_of self.old.cache) self.new.cache }
         ensures demux { IsDemux self.new }

@@ -9,6 +9,7 @@ ghost use Rattle.mc_demux.specs.Demuxers.{IsDemux};
 ghost use Rattle.mc_demux.specs.Film.{StandsFor};
 ghost use Rattle.mc_demux.specs.Keeping.{IsRoomy};
 ghost use Rattle.mc_demux.specs.Marks.{AreAmong, marks_of};
+ghost use Rattle.mc_journal.specs.Callers.{Grew};
 ghost use Rattle.mc_demux.specs.Seeking.{Goes, IsRefused, Seeks, Turns, heads_or, target_after};
 
 use crate::answer::DemuxError;
@@ -47,7 +48,8 @@ fn target_after(t: i64, dir: Dir, how: Sought) -> Option<Target>
 fn turn(cache: &mut Cache, heads: &mut Heads, set: Choice, t: i64, dir: Dir) -> Sought
     ensures value { Turns set t dir result cache.old cache.new }
     ensures how { result ≡ how_by (is_some (server set t dir cache.old)) }
-    ensures heads { heads.new ≡ heads_or heads.old (heads_in set t dir (server set t dir cache.old)) }
+    ensures heads { heads.new
+        ≡ heads_or heads.old (heads_in set t dir (server set t dir cache.old)) }
     ensures cache { IsCache cache.new }
 {
     match cache.choose(set, t, dir) {
@@ -112,6 +114,7 @@ impl Demux {
     /// with `NoMemory`. The last two change nothing but room.
     pub fn seek(&mut self, by: u32, t: i64, dir: Dir) -> Result<Sought, DemuxError>
         ensures value { Seeks by t dir self.old result self.new }
+        ensures grows { Grew by self.old.journal self.new.journal }
         ensures film { (film : Film) → StandsFor film self.old → StandsFor film self.new }
         ensures marks { AreAmong (marks_of self.old.cache) self.new.cache }
         ensures demux { IsDemux self.new }

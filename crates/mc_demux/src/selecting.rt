@@ -7,7 +7,9 @@ ghost use Rattle.mc_cache.specs.Cache.{count_of, ranges_of};
 ghost use Rattle.mc_demux.specs.Demuxers.{IsDemux};
 ghost use Rattle.mc_demux.specs.Film.{StandsFor};
 ghost use Rattle.mc_demux.specs.Marks.{AreAmong, marks_of};
-ghost use Rattle.mc_demux.specs.Selecting.{Selects, Switches, added_to, knows, sought_again, told_drops, waiting_after};
+ghost use Rattle.mc_journal.specs.Callers.{Grew};
+ghost use Rattle.mc_tracks.specs.Selection.{knows};
+ghost use Rattle.mc_demux.specs.Selecting.{Selects, Switches, added_to, sought_again, told_drops, waiting_after};
 
 use crate::answer::{DemuxError, Selected};
 use crate::choosing::{choice_of, refusal_of};
@@ -71,7 +73,8 @@ fn write_switch(
     drops: &[Removal],
 )
     requires { vec_len journal.old + 2 + length drops.now ≤ vec_capacity journal.old }
-    ensures items { journal.new.items ≡ journal.old.items ++ ((own ∷ sought_again by set seeking) ++ told_drops by drops.now) }
+    ensures items { journal.new.items
+        ≡ journal.old.items ++ ((own ∷ sought_again by set seeking) ++ told_drops by drops.now) }
     ensures few { vec_len journal.new ≤ vec_len journal.old + 2 + length drops.now }
     ensures kept { vec_capacity journal.new ≡ vec_capacity journal.old }
 {
@@ -82,7 +85,8 @@ fn write_switch(
 
 impl Demux {
     fn added(&self, track: Option<TrackNo>) -> Option<TrackNo>
-        ensures { result ≡ kept_track (λ k. not (has self.now.set k) || has self.now.waiting k) track }
+        ensures { result
+            ≡ kept_track (λ k. not (has self.now.set k) || has self.now.waiting k) track }
     {
         match track {
             Some(track) => {
@@ -155,6 +159,7 @@ impl Demux {
     /// but room.
     pub fn select(&mut self, by: u32, set: &[TrackNo], at: i64) -> Result<Selected, DemuxError>
         ensures value { Selects by set.now at self.old result self.new }
+        ensures grows { Grew by self.old.journal self.new.journal }
         ensures film { (film : Film) → StandsFor film self.old → StandsFor film self.new }
         ensures marks { AreAmong (marks_of self.old.cache) self.new.cache }
         ensures demux { IsDemux self.new }

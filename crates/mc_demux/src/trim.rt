@@ -12,7 +12,8 @@ use mc_packet::Heads;
 /// Drops packets as long as the octets behind the readers are more than the limit, and tells each
 /// drop. The journal has room for them and two records more.
 pub(crate) fn trim(by: u32, cache: &mut Cache, heads: &Heads, journal: &mut DemuxJournal)
-    requires room { vec_len journal.old + count_of (ranges_of cache.old) + 2 ≤ vec_capacity journal.old }
+    requires room { vec_len journal.old + count_of (ranges_of cache.old) + 2
+        ≤ vec_capacity journal.old }
     ensures value { Trims by heads.now cache.old journal.old.items cache.new journal.new.items }
     ensures within { back_of heads.now cache.new ≤ cache.new.limits.back }
     ensures room { vec_len journal.new + 2 ≤ vec_capacity journal.new }

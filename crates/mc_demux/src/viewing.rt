@@ -9,6 +9,7 @@ ghost use Rattle.mc_demux.specs.Demuxers.{IsDemux};
 ghost use Rattle.mc_demux.specs.Film.{StandsFor};
 ghost use Rattle.mc_demux.specs.Keeping.{IsRoomy};
 ghost use Rattle.mc_demux.specs.Marks.{AreAmong, marks_of};
+ghost use Rattle.mc_journal.specs.Callers.{Grew};
 ghost use Rattle.mc_demux.specs.Viewing.{IsShown, Shows, flags_of, is_ended, play_told, status_of, tells_play, tells_time, time_told, view_of};
 
 use crate::answer::DemuxError;
@@ -128,7 +129,8 @@ impl Demux {
     /// whether all readers were told the end.
     pub fn view(&self) -> Result<CacheView, NoMemory>
         ensures value { IfOk result (λ v. v ≡ view_of self.now) }
-        ensures film { (film : Film) → StandsFor film self.now → IfOk result (λ v. v ≡ view film.packets (reverse self.now.journal)) }
+        ensures film { (film : Film) → StandsFor film self.now
+            → IfOk result (λ v. v ≡ view film.packets (reverse self.now.journal)) }
         ensures demux { IsDemux self.now }
     {
         let lead = lead_of(self.set);
@@ -156,6 +158,7 @@ impl Demux {
     /// records, and with `NoMemory`; nothing changes then but room.
     pub fn show(&mut self, by: u32) -> Result<CacheView, DemuxError>
         ensures value { Shows by self.old result self.new }
+        ensures grows { Grew by self.old.journal self.new.journal }
         ensures film { (film : Film) → StandsFor film self.old → StandsFor film self.new }
         ensures marks { AreAmong (marks_of self.old.cache) self.new.cache }
         ensures demux { IsDemux self.new }

@@ -32,8 +32,10 @@ fn is_near(first: &Packet, limits: &Limits, packet: &Packet) -> bool
 /// Whether all that is held of a track at a place or behind it is less than what is read ahead
 /// behind a first packet. It stops at one that is not.
 fn are_near(cache: &Cache, track: TrackNo, head: Pos, first: &Packet, limits: &Limits) -> bool
-    ensures { result ≡ list_all (λ p. is_near first.now.time limits.now.readahead p.time) (held_from track head cache.now.current) }
+    ensures { result ≡ list_all (λ p. is_near first.now.time limits.now.readahead p.time)
+        (held_from track head cache.now.current) }
 {
+    // for the proof alone: it says what is true of every cache
     let _mark = cache.mark();
     let mut place = head;
     while let Some(packet) = cache.first_at(track, place) {
@@ -48,7 +50,8 @@ fn are_near(cache: &Cache, track: TrackNo, head: Pos, first: &Packet, limits: &L
 /// Whether a track has nothing at a place, or less from there on than is read ahead.
 #[tactic(auto, using(crate::proofs::Nearness::none_near))]
 fn wants_from(cache: &Cache, track: TrackNo, head: Pos) -> bool
-    ensures { result ≡ wants_more cache.now.limits.readahead ((held_from track head cache.now.current)) }
+    ensures { result
+        ≡ wants_more cache.now.limits.readahead (held_from track head cache.now.current) }
 {
     let limits = cache.limits();
     match cache.first_at(track, head) {

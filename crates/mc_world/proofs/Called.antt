@@ -33,7 +33,7 @@ use Rattle.mc_demux.specs.Asking.{Asks, IsAsked}
 use Rattle.mc_demux.specs.Demuxers.{IsDemux, IsKept, KeepsJob}
 use Rattle.mc_demux.specs.Jobs.{job_of, kept_job}
 use Rattle.mc_demux.specs.Keeping.{IsAsBefore}
-use Rattle.mc_demux.specs.Readings.{ReadOn, ReadsWith, Reads as DemuxReads, peek_at, reading_by, reading_of, record_of, waiting_for}
+use Rattle.mc_demux.specs.Readings.{Gives, ReadsWith, Reads as DemuxReads, ended_after, heads_after, peek_at, reading_by, reading_of, record_of, waiting_for}
 use Rattle.mc_demux.specs.Records.{HasRoom, IsExtra, IsFull, IsLimitDrop, Wrote, WroteAll}
 use Rattle.mc_demux.specs.Seeking.{IsRefused, Seeks as DemuxSeeks}
 use Rattle.mc_demux.specs.Selecting.{Selects as DemuxSelects, added_to, choice_of, sought_again}
@@ -201,7 +201,7 @@ saw d k r e = subst (Saw d k) (sym e) (sees d k)
 no_place : (o : Option Packet) → o ≡ None → option_map place_of o ≡ None
 no_place o e = rw e refl
 
-told_own : (by k : ℕ) (own : DemuxRecord) (reading : Reading) (old new : DemuxState) → ReadOn by k reading own old new → WroteAll by (own ∷ []) old.journal new.journal
+told_own : (by k : ℕ) (own : DemuxRecord) (reading : Reading) (old new : DemuxState) → Gives by own (heads_after k reading old) (ended_after k reading old) old new → WroteAll by (own ∷ []) old.journal new.journal
 told_own by k own reading old new h = wrote_all by own old.journal new.journal h.wrote
 
 pub reads_of : (by k : ℕ) (old new : DemuxState) (r : Result Reading DemuxError) → DemuxReads by k old r new → Reads (ahead_of old) by k old.journal new.journal r

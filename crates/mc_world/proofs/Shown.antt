@@ -18,7 +18,7 @@ use Rattle.mc_demux.specs.declared.answer.Reading.{Reading}
 use Rattle.mc_demux.specs.declared.answer.Reading.TheVariants as reads
 use Rattle.mc_demux.specs.Demuxers.{IsDemux}
 use Rattle.mc_demux.specs.Film.{StandsFor}
-use Rattle.mc_demux.specs.Readings.{Reads as DemuxReads, ReadOn}
+use Rattle.mc_demux.specs.Readings.{Gives, Reads as DemuxReads, ended_after, heads_after}
 use Rattle.mc_demux.specs.Shows.{GivesNone, is_idle_job}
 use Rattle.mc_demux.specs.State.{DemuxState, next_in}
 use Rattle.mc_demux.proofs.Showing.{front_is, own_is, pending_is, set_is, tells_is}
@@ -54,7 +54,7 @@ no_front : (film : Film) (d : DemuxState) (k : ℕ) → StandsFor film d → nex
 no_front film d k s e = sym (front_is film d k s) ∙ rw e refl
 
 -- an answer without a packet, which a record tells
-quiet_front : (film : Film) (by k : ℕ) (own : DemuxRecord) (reading : Reading) (d e : DemuxState) → StandsFor film d → StandsFor film e → GivesNone own → ReadOn by k reading own d e
+quiet_front : (film : Film) (by k : ℕ) (own : DemuxRecord) (reading : Reading) (d e : DemuxState) → StandsFor film d → StandsFor film e → GivesNone own → Gives by own (heads_after k reading d) (ended_after k reading d) d e
     → next_in d.set d.heads k d.cache.current ≡ None → option_map place (next film.packets (reverse e.journal) k) ≡ None
 quiet_front film by k own reading d e s t none on n = no_front film e k t (quiet_is film d e k by own s t on.wrote none n)
 

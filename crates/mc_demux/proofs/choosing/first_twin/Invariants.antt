@@ -1,6 +1,6 @@
 use Rattle.std.proofs.Common.{◌≡◌, [], take, drop}
 use Rattle.std.specs.Prelude.{reverse}
-use Rattle.mc_demux.specs.Selecting.{first_twin}
+use Rattle.mc_tracks.specs.Selection.{first_twin}
 use Rattle.mc_demux.proofs.choosing.first_twin.Given as goal
 
 -- what is seen stands in the other order

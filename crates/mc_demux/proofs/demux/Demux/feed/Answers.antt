@@ -1,12 +1,14 @@
-use Rattle.std.proofs.Common.{◌≡◌, ◌∷◌, rules, subst, sym}
+use Rattle.std.proofs.Common.{◌≡◌, [], ◌∷◌, refl, rules, subst, sym}
 use Rattle.mc_demux.specs.State.{DemuxState}
 use Rattle.mc_demux.specs.Film.{StandsFor}
 use Rattle.mc_demux.specs.Outcomes.{PartFits}
 use Rattle.mc_demux.specs.Records.{HasRoom}
+use Rattle.mc_journal.specs.Callers.{Grew, demuxer}
 use Rattle.mc_demux.proofs.Takings.{fed_on, feed_keeps, roomy_stands, same_kept, same_mark}
 use Rattle.mc_demux.specs.Marks.{AreAmong, marks_of}
 use Rattle.mc_demux.proofs.Among.{among_more}
 use Rattle.mc_demux.proofs.Remarked.{as_before_among, before_more, part_among}
+use Rattle.mc_demux.proofs.Grown.{before_grew, none_grew, wrote_all_grew}
 use Rattle.mc_demux.proofs.demux.Demux.feed.Goals as goal
 
 pub returns-in_err-make_room_to_feed-clause-film : goal.returns-in_err-make_room_to_feed-clause-film
@@ -51,3 +53,20 @@ pub returns-clause-marks : goal.returns-clause-marks
 returns-clause-marks c =
     part_among c.args.chunk c.make_room_to_feed.new.self c.take_part.new.self (marks_of c.args.self.now.cache) c.in_ok-take_part.ensures.ok
     (as_before_among c.args.self.now c.make_room_to_feed.new.self c.in_ok-make_room_to_feed.ensures.same)
+
+pub returns-then-len-ge-FULL-clause-grows : goal.returns-then-len-ge-FULL-clause-grows
+returns-then-len-ge-FULL-clause-grows c = none_grew demuxer c.args.self.now.journal
+
+pub returns-then-no-self-clause-grows : goal.returns-then-no-self-clause-grows
+returns-then-no-self-clause-grows c = none_grew demuxer c.args.self.now.journal
+
+pub returns-in_err-make_room_to_feed-clause-grows : goal.returns-in_err-make_room_to_feed-clause-grows
+returns-in_err-make_room_to_feed-clause-grows c = before_grew demuxer c.args.self.now c.make_room_to_feed.new.self c.in_err-make_room_to_feed.ensures.same
+
+pub returns-in_err-take_part-clause-grows : goal.returns-in_err-take_part-clause-grows
+returns-in_err-take_part-clause-grows c =
+    subst (λ (d : DemuxState). Grew demuxer c.args.self.now.journal d.journal) (sym c.in_err-take_part.ensures.err)
+    (before_grew demuxer c.args.self.now c.make_room_to_feed.new.self c.in_ok-make_room_to_feed.ensures.same)
+
+pub returns-clause-grows : goal.returns-clause-grows
+returns-clause-grows c = wrote_all_grew demuxer (_ ∷ []) c.args.self.now.journal c.take_part.new.self.journal (refl, tt) (returns-clause-value c).2.wrote

@@ -1,11 +1,14 @@
-use Rattle.std.proofs.Common.{◌≡◌, rules}
+use Rattle.std.proofs.Common.{◌≡◌, [], ◌∷◌, refl, rules}
 use Rattle.mc_demux.specs.Keeping.{IsAsBefore}
 use Rattle.mc_demux.specs.Outcomes.{StartsFit}
 use Rattle.mc_demux.specs.Records.{HasRoom}
+use Rattle.mc_journal.specs.Callers.{demuxer}
 use Rattle.mc_demux.proofs.Takings.{before_both, find_keeps, found_on, roomy_stands, same_kept}
 use Rattle.mc_demux.specs.Marks.{marks_of}
 use Rattle.mc_demux.proofs.Among.{among_more}
 use Rattle.mc_demux.proofs.Remarked.{as_before_among, before_more, starts_among}
+use Rattle.mc_demux.proofs.Grown.{before_grew, none_grew, wrote_all_grew}
+use Rattle.mc_journal.specs.declared.record.DemuxRecord.TheVariants.{Found}
 use Rattle.mc_demux.proofs.demux.Demux.found.Goals as goal
 
 pub returns-clause-value : goal.returns-clause-value
@@ -57,3 +60,21 @@ pub returns-clause-marks : goal.returns-clause-marks
 returns-clause-marks c =
     starts_among c.args.starts c.make_room_to_find.new.self c.take_starts.new.self (marks_of c.args.self.now.cache) c.in_ok-take_starts.ensures.ok
     (as_before_among c.args.self.now c.make_room_to_find.new.self c.in_ok-make_room_to_find.ensures.same)
+
+pub returns-then-len-ge-FULL-clause-grows : goal.returns-then-len-ge-FULL-clause-grows
+returns-then-len-ge-FULL-clause-grows c = none_grew demuxer c.args.self.now.journal
+
+pub returns-then-no-self-clause-grows : goal.returns-then-no-self-clause-grows
+returns-then-no-self-clause-grows c = none_grew demuxer c.args.self.now.journal
+
+pub returns-in_err-make_room_to_find-clause-grows : goal.returns-in_err-make_room_to_find-clause-grows
+returns-in_err-make_room_to_find-clause-grows c = before_grew demuxer c.args.self.now c.make_room_to_find.new.self c.in_err-make_room_to_find.ensures.same
+
+pub returns-in_err-take_starts-clause-grows : goal.returns-in_err-take_starts-clause-grows
+returns-in_err-take_starts-clause-grows c =
+    before_grew demuxer c.args.self.now c.take_starts.new.self
+    (before_both c.args.self.now c.make_room_to_find.new.self c.take_starts.new.self c.in_ok-make_room_to_find.ensures.same c.in_err-take_starts.ensures.err)
+
+pub returns-clause-grows : goal.returns-clause-grows
+returns-clause-grows c =
+    wrote_all_grew demuxer (Found demuxer c.args.starts ∷ []) c.args.self.now.journal c.take_starts.new.self.journal (refl, tt) (returns-clause-value c).2.wrote

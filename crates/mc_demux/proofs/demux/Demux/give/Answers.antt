@@ -5,6 +5,7 @@ use Rattle.mc_cache.specs.Pruning.{ahead_in}
 use Rattle.mc_demux.specs.State.{DemuxState, forward_of}
 use Rattle.mc_demux.specs.Demuxers.{IsPlaced}
 use Rattle.mc_demux.specs.Trimming.{Trims}
+use Rattle.mc_demux.proofs.Answering.{gives_now}
 use Rattle.mc_demux.proofs.Readers.{gives_is}
 use Rattle.mc_demux.proofs.demux.Demux.give.Goals as goal
 
@@ -29,3 +30,8 @@ returns-clause-demux c =
     let spare : 2 ≤ vec_capacity c.trim.new.journal - length c.trim.new.journal.items = omega arith in
     gives_is _ c.args.by c.args.own c.args.heads c.args.ended c.trim.new.cache c.trim.new.journal.items (vec_capacity c.trim.new.journal - length c.trim.new.journal.items)
     c.self.invariant placed ahead trims c.trim.ensures.cache c.trim.ensures.within spare
+
+pub returns-clause-value : goal.returns-clause-value
+returns-clause-value c =
+    let trims = subst (λ (j : List DemuxRecord). Trims c.args.by c.args.heads c.self.inside.cache j c.trim.new.cache c.trim.new.journal.items) c.push_reserved.ensures.items c.trim.ensures.value in
+    gives_now _ c.args.self.now c.args.by c.args.own c.args.heads c.args.ended c.trim.new.cache c.trim.new.journal.items _ c.self.view_is trims

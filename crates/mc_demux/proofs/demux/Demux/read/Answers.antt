@@ -5,6 +5,7 @@ use Rattle.mc_demux.specs.Records.{HasRoom}
 use Rattle.mc_demux.specs.Readings.{record_of, heads_after, ended_after}
 use Rattle.mc_demux.proofs.Telling.{read_told, tell_keeps}
 use Rattle.mc_demux.proofs.Among.{among_self, among_same, gives-among}
+use Rattle.mc_demux.proofs.Grown.{none_grew, roomy_grew, told_grew}
 use Rattle.mc_demux.proofs.demux.Demux.read.Goals as goal
 
 pub returns-in_ok-tell-in-Some-clause-value : goal.returns-in_ok-tell-in-Some-clause-value
@@ -35,3 +36,19 @@ returns-in_ok-tell-in-Some-clause-marks c =
 
 pub returns-in-None-clause-marks : goal.returns-in-None-clause-marks
 returns-in-None-clause-marks c = among_self c.args.self.now.cache
+
+pub returns-then-len-ge-FULL-clause-grows : goal.returns-then-len-ge-FULL-clause-grows
+returns-then-len-ge-FULL-clause-grows c = none_grew c.args.by c.args.self.now.journal
+
+pub returns-in_err-reading-clause-grows : goal.returns-in_err-reading-clause-grows
+returns-in_err-reading-clause-grows c = none_grew c.args.by c.args.self.now.journal
+
+pub returns-in_err-tell-in-Some-clause-grows : goal.returns-in_err-tell-in-Some-clause-grows
+returns-in_err-tell-in-Some-clause-grows c = roomy_grew c.args.by c.args.self.now c.tell.new.self c.in_err-tell-in-Some.ensures.err
+
+pub returns-in_ok-tell-in-Some-clause-grows : goal.returns-in_ok-tell-in-Some-clause-grows
+returns-in_ok-tell-in-Some-clause-grows c =
+    told_grew c.args.by c.args.track c.in_ok-reading.reading c.in-Some.own c.args.self.now.journal c.tell.new.self.journal c.in-Some.ensures c.in_ok-tell-in-Some.ensures.ok.wrote
+
+pub returns-in-None-clause-grows : goal.returns-in-None-clause-grows
+returns-in-None-clause-grows c = none_grew c.args.by c.args.self.now.journal

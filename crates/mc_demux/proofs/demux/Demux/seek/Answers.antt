@@ -1,4 +1,4 @@
-use Rattle.std.proofs.Common.{◌≡◌, ℤ, true, false, rules, subst, ap, ◌∙◌, w64, to_z, of_z}
+use Rattle.std.proofs.Common.{◌≡◌, ℤ, true, false, refl, rules, subst, ap, ◌∙◌, w64, to_z, of_z}
 use Rattle.std.specs.Prelude.{reverse}
 use Rattle.std.proofs.lemmas.Int.{to_z-of_z}
 use Rattle.mc_packet.specs.declared.choice.Choice.{Choice}
@@ -9,9 +9,11 @@ use Rattle.mc_demux.specs.State.{DemuxState}
 use Rattle.mc_demux.specs.Demuxers.{IsDemux}
 use Rattle.mc_demux.specs.Records.{HasRoom}
 use Rattle.mc_demux.specs.Seeking.{Goes}
-use Rattle.mc_demux.proofs.Turned.{goes_keeps, goes_seeks, refused_keeps, roomy_goes}
+use Rattle.mc_demux.proofs.Turned.{goes_keeps, refused_keeps, roomy_goes}
 use Rattle.mc_demux.proofs.Among.{among_same, among_self}
 use Rattle.mc_demux.proofs.Remarked.{goes_among, spare_among}
+use Rattle.mc_demux.proofs.Grown.{none_grew, refused_grew, roomy_grew, wrote_grew}
+use Rattle.mc_journal.specs.declared.record.DemuxRecord.TheVariants.{Sought}
 use Rattle.mc_demux.proofs.demux.Demux.seek.Goals as goal
 
 pub returns-then-is_empty-clause-film : goal.returns-then-is_empty-clause-film
@@ -24,9 +26,9 @@ pub returns-clause-value : goal.returns-clause-value
 returns-clause-value c =
     let room : HasRoom c.args.self.now.journal = search rules in
     let some : is_empty c.args.self.now.set ≡ false = search rules in
-    goes_seeks c.args.self.now c.go.new.self c.args.by c.args.t c.args.dir c.go.result room some
-    (roomy_goes c.args.self.now c.make_room.new.self c.go.new.self c.args.by c.args.t c.args.dir c.go.result c.in_ok-make_room.ensures.same
-    (subst (λ (z : ℤ). Goes c.args.by z c.args.dir c.go.result c.make_room.new.self c.go.new.self) (to_z-of_z w64 c.args.t c.ranges.t) c.go.ensures.value))
+    let goes = roomy_goes c.args.self.now c.make_room.new.self c.go.new.self c.args.by c.args.t c.args.dir c.go.result c.in_ok-make_room.ensures.same
+    (subst (λ (z : ℤ). Goes c.args.by z c.args.dir c.go.result c.make_room.new.self c.go.new.self) (to_z-of_z w64 c.args.t c.ranges.t) c.go.ensures.value) in
+    (room, some, goes.how_is, goes)
 
 pub returns-clause-film : goal.returns-clause-film
 returns-clause-film c = λ film s.
@@ -51,3 +53,18 @@ pub returns-clause-marks : goal.returns-clause-marks
 returns-clause-marks c =
     goes_among c.args.by (to_z w64 (of_z w64 c.args.t)) c.args.dir c.go.result c.args.self.now c.go.new.self
     (roomy_goes c.args.self.now c.make_room.new.self c.go.new.self c.args.by (to_z w64 (of_z w64 c.args.t)) c.args.dir c.go.result c.in_ok-make_room.ensures.same c.go.ensures.value)
+
+pub returns-then-len-ge-FULL-clause-grows : goal.returns-then-len-ge-FULL-clause-grows
+returns-then-len-ge-FULL-clause-grows c = none_grew c.args.by c.args.self.now.journal
+
+pub returns-in_err-refuse-clause-grows : goal.returns-in_err-refuse-clause-grows
+returns-in_err-refuse-clause-grows c = roomy_grew c.args.by c.args.self.now c.refuse.new.self c.in_err-refuse.ensures.err
+
+pub returns-then-is_empty-clause-grows : goal.returns-then-is_empty-clause-grows
+returns-then-is_empty-clause-grows c = refused_grew c.args.by NoTrack c.args.self.now c.refuse.new.self c.in_ok-refuse.ensures.ok
+
+pub returns-in_err-make_room-clause-grows : goal.returns-in_err-make_room-clause-grows
+returns-in_err-make_room-clause-grows c = roomy_grew c.args.by c.args.self.now c.make_room.new.self c.in_err-make_room.ensures.same
+
+pub returns-clause-grows : goal.returns-clause-grows
+returns-clause-grows c = wrote_grew c.args.by (Sought c.args.by c.args.self.now.set c.args.t c.args.dir c.go.result) c.args.self.now.journal c.go.new.self.journal refl (returns-clause-value c).3.wrote

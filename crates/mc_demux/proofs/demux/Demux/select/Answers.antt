@@ -8,14 +8,17 @@ use Rattle.mc_packet.specs.Choices.{is_known}
 use Rattle.mc_demux.specs.State.{DemuxState}
 use Rattle.mc_demux.specs.Demuxers.{IsDemux}
 use Rattle.mc_demux.specs.Records.{HasRoom}
-use Rattle.mc_demux.specs.Selecting.{SwitchedTo, Switches, choice_of, knows, refusal_of}
+use Rattle.mc_journal.specs.Callers.{Grew}
+use Rattle.mc_tracks.specs.Selection.{choice_of, knows, refusal_of}
+use Rattle.mc_demux.specs.Selecting.{Switches}
 use Rattle.mc_demux.proofs.Known.{choice_known}
-use Rattle.mc_demux.proofs.Switched.{differ, roomy_switches, switches_to}
+use Rattle.mc_demux.proofs.Switched.{differ, roomy_switches}
 use Rattle.mc_demux.proofs.Reselected.{refusal_told, switch_keeps}
 use Rattle.mc_demux.proofs.Turned.{refused_keeps}
 use Rattle.mc_demux.specs.Marks.{AreAmong, marks_of}
 use Rattle.mc_demux.proofs.Among.{among_same, among_self}
 use Rattle.mc_demux.proofs.Remarked.{spare_among, switches_among}
+use Rattle.mc_demux.proofs.Grown.{none_grew, refused_grew, roomy_grew, switches_grew}
 use Rattle.mc_demux.proofs.demux.Demux.select.Goals as goal
 
 pub switch-requires-clause-known : goal.switch-requires-clause-known
@@ -34,10 +37,9 @@ returns-clause-value c =
     let here : c.args.self.now.set ≡ c.self.inside.set = sym (ap (λ (d : DemuxState). d.set) c.self.view_is) in
     let other : choice_of c.args.self.now.list c.args.set.now ≡ c.args.self.now.set → ⊥ = λ e. differ c.choice_of-chosen.result c.self.inside.set c.if-eq.ensures (same ∙ e ∙ here) in
     let fits : SFits w64 c.args.at = search rules in
-    let told = switches_to c.args.self.now c.switch.new.self c.args.by c.choice_of-chosen.result c.args.at
-    (roomy_switches c.args.self.now c.make_room_to_change.new.self c.switch.new.self c.args.by c.choice_of-chosen.result c.args.at c.in_ok-make_room_to_change.ensures.same
-    (subst (λ (z : ℤ). Switches c.args.by c.choice_of-chosen.result z c.make_room_to_change.new.self c.switch.new.self) (to_z-of_z w64 c.args.at fits) c.in_ok-switch.ensures.ok)) in
-    (room, none, other, subst (λ (x : Choice). SwitchedTo c.args.by x c.args.at c.args.self.now c.switch.new.self) same told)
+    let told = roomy_switches c.args.self.now c.make_room_to_change.new.self c.switch.new.self c.args.by c.choice_of-chosen.result c.args.at c.in_ok-make_room_to_change.ensures.same
+    (subst (λ (z : ℤ). Switches c.args.by c.choice_of-chosen.result z c.make_room_to_change.new.self c.switch.new.self) (to_z-of_z w64 c.args.at fits) c.in_ok-switch.ensures.ok) in
+    (room, none, other, subst (λ (x : Choice). Switches c.args.by x c.args.at c.args.self.now c.switch.new.self) same told)
 
 pub returns-in-Some-clause-film : goal.returns-in-Some-clause-film
 returns-in-Some-clause-film c = λ film s.
@@ -53,7 +55,9 @@ returns-clause-film c = λ film s.
     let known : is_known (knows c.args.self.now.list) c.choice_of-chosen.result ≡ true =
     subst (λ (x : DemuxState). is_known (knows x.list) c.choice_of-chosen.result ≡ true) c.self.view_is
     (subst (λ (x : Choice). is_known (knows c.self.inside.list) x ≡ true) (sym c.choice_of-chosen.ensures) accepted) in
-    switch_keeps film c.args.self.now c.switch.new.self c.args.by c.choice_of-chosen.result (to_z w64 (of_z w64 c.args.at)) d known (λ e. differ c.choice_of-chosen.result c.self.inside.set c.if-eq.ensures (e ∙ sym (ap (λ (x : DemuxState). x.set) c.self.view_is)))
+    let here : c.args.self.now.set ≡ c.self.inside.set = sym (ap (λ (d : DemuxState). d.set) c.self.view_is) in
+    let other : c.choice_of-chosen.result ≡ c.args.self.now.set → ⊥ = λ e. differ c.choice_of-chosen.result c.self.inside.set c.if-eq.ensures (e ∙ here) in
+    switch_keeps film c.args.self.now c.switch.new.self c.args.by c.choice_of-chosen.result (to_z w64 (of_z w64 c.args.at)) d known other
     (roomy_switches c.args.self.now c.make_room_to_change.new.self c.switch.new.self c.args.by c.choice_of-chosen.result (to_z w64 (of_z w64 c.args.at)) c.in_ok-make_room_to_change.ensures.same
     c.in_ok-switch.ensures.ok) s
 
@@ -82,3 +86,26 @@ returns-clause-marks c =
     switches_among c.args.by c.choice_of-chosen.result (to_z w64 (of_z w64 c.args.at)) c.args.self.now c.switch.new.self
     (roomy_switches c.args.self.now c.make_room_to_change.new.self c.switch.new.self c.args.by c.choice_of-chosen.result (to_z w64 (of_z w64 c.args.at)) c.in_ok-make_room_to_change.ensures.same
     c.in_ok-switch.ensures.ok)
+
+pub returns-then-len-ge-FULL-clause-grows : goal.returns-then-len-ge-FULL-clause-grows
+returns-then-len-ge-FULL-clause-grows c = none_grew c.args.by c.args.self.now.journal
+
+pub returns-in_err-refuse-clause-grows : goal.returns-in_err-refuse-clause-grows
+returns-in_err-refuse-clause-grows c = roomy_grew c.args.by c.args.self.now c.refuse.new.self c.in_err-refuse.ensures.err
+
+pub returns-in-Some-clause-grows : goal.returns-in-Some-clause-grows
+returns-in-Some-clause-grows c = refused_grew c.args.by c.in-Some.why c.args.self.now c.refuse.new.self c.in_ok-refuse.ensures.ok
+
+pub returns-then-eq-clause-grows : goal.returns-then-eq-clause-grows
+returns-then-eq-clause-grows c = none_grew c.args.by c.args.self.now.journal
+
+pub returns-in_err-make_room_to_change-clause-grows : goal.returns-in_err-make_room_to_change-clause-grows
+returns-in_err-make_room_to_change-clause-grows c = roomy_grew c.args.by c.args.self.now c.make_room_to_change.new.self c.in_err-make_room_to_change.ensures.same
+
+pub returns-in_err-switch-clause-grows : goal.returns-in_err-switch-clause-grows
+returns-in_err-switch-clause-grows c =
+    subst (λ (d : DemuxState). Grew c.args.by c.args.self.now.journal d.journal) (sym c.in_err-switch.ensures.err)
+    (roomy_grew c.args.by c.args.self.now c.make_room_to_change.new.self c.in_ok-make_room_to_change.ensures.same)
+
+pub returns-clause-grows : goal.returns-clause-grows
+returns-clause-grows c = switches_grew c.args.by (choice_of c.args.self.now.list c.args.set.now) c.args.at c.args.self.now c.switch.new.self (returns-clause-value c).3

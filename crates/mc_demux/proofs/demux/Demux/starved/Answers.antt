@@ -1,9 +1,12 @@
-use Rattle.std.proofs.Common.{◌≡◌, true, is_some, ap, rules, subst}
+use Rattle.std.proofs.Common.{◌≡◌, true, is_some, ap, refl, rules, subst}
 use Rattle.mc_demux.specs.declared.waiting.Failure.TheVariants.{Starved}
 use Rattle.mc_demux.specs.State.{DemuxState}
 use Rattle.mc_demux.specs.Demuxers.{IsDemux}
 use Rattle.mc_demux.proofs.Failing.{stop_keeps}
 use Rattle.mc_demux.proofs.Among.{among_same, among_self}
+use Rattle.mc_demux.proofs.Grown.{none_grew, one_grew}
+use Rattle.mc_journal.specs.declared.record.DemuxRecord.TheVariants.{Starved as StarvedRecord}
+use Rattle.mc_journal.specs.Callers.{demuxer}
 use Rattle.mc_demux.proofs.demux.Demux.starved.Goals as goal
 
 pub returns-clause-film : goal.returns-clause-film
@@ -17,3 +20,9 @@ returns-then-no-self-clause-marks c = among_self c.args.self.now.cache
 
 pub returns-clause-marks : goal.returns-clause-marks
 returns-clause-marks c = among_same c.args.self.now.cache c.stop.new.self.cache (ap (λ (d : DemuxState). d.cache) c.stop.ensures.value)
+
+pub returns-then-no-self-clause-grows : goal.returns-then-no-self-clause-grows
+returns-then-no-self-clause-grows c = none_grew demuxer c.args.self.now.journal
+
+pub returns-clause-grows : goal.returns-clause-grows
+returns-clause-grows c = one_grew demuxer (StarvedRecord demuxer) c.args.self.now.journal c.stop.new.self.journal refl (ap (λ (d : DemuxState). d.journal) c.stop.ensures.value)

@@ -5,10 +5,12 @@ use Rattle.std.proofs.lemmas.Int.{to_z-of_z}
 use Rattle.mc_journal.specs.declared.record.Removal.{Removal}
 use Rattle.mc_packet.specs.Choices.{is_known}
 use Rattle.mc_cache.specs.Cache.{count_of, ranges_of}
-use Rattle.mc_demux.specs.Selecting.{added_to, knows}
+use Rattle.mc_tracks.specs.Selection.{knows}
+use Rattle.mc_demux.specs.Selecting.{added_to}
 use Rattle.mc_demux.specs.State.{DemuxState}
 use Rattle.mc_demux.proofs.Known.{known_distinct}
 use Rattle.mc_demux.proofs.Lost.{few_told, left_counts, switched_inside}
+use Rattle.mc_demux.proofs.Switched.{switches_now}
 use Rattle.mc_demux.proofs.demux.Demux.switch.Goals as goal
 
 pub retrack-requires : goal.retrack-requires
@@ -47,3 +49,12 @@ invariant_of-self-2 c =
 
 pub returns-clause-demux : goal.returns-clause-demux
 returns-clause-demux c = invariant_of-self-2 c
+
+pub returns-clause-ok : goal.returns-clause-ok
+returns-clause-ok c =
+    let added = subst (λ (d : DemuxState). c.added_to-added.result ≡ added_to c.args.set d) (sym c.self.view_is) c.added_to-added.ensures in
+    let fits : SFits w64 c.args.at = search rules in
+    switches_now _ c.args.self.now c.args.by c.args.set c.args.at _ c.added_to-added.result c.waiting_after-self-inside.result c.lead_of.result c.in_ok-drops.drops c.as_slice.result.now
+    c.retrack.new.self c.trim.new.cache c.write_switch.new.journal.items c.trim.new.journal.items c.nothing-self-inside.result _
+    c.self.view_is c.in_ok-drops.ensures.cache c.in_ok-drops.ensures.ok c.as_slice.ensures c.write_switch.ensures.items c.trim.ensures.value
+    (to_z-of_z w64 c.args.at fits) added c.waiting_after-self-inside.ensures c.lead_of.ensures c.nothing-self-inside.ensures

@@ -109,7 +109,7 @@ fn answer_and_tell(
 ) -> Result<(), RowError> {
     let before = held.demux.journal().len();
     answer(alloc, held, word, arguments, out)?;
-    Ok(push_records(held.demux.journal().as_slice(), before, out)?)
+    Ok(push_records(held.demux.journal(), before, out)?)
 }
 
 fn answer(

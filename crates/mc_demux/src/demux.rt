@@ -6,13 +6,13 @@ ghost use Rattle.mc_demux.specs.Demuxers.{IsDemux};
 use crate::job::Job;
 use crate::waiting::{Failure, Switch, Target};
 use mc_cache::Cache;
-use mc_journal::DemuxRecord;
+use mc_journal::{DemuxJournal, DemuxRecord};
 use mc_packet::{Choice, Heads, Mark};
 use mc_tracks::TrackList;
 use std::marker::Model;
 
-/// The records of a demuxer, the oldest first.
-pub type DemuxJournal = Vec<DemuxRecord>;
+// The records while they are written: room for them is made beforehand.
+pub(crate) type Records = Vec<DemuxRecord>;
 
 /// A film's tracks, the cache of its packets, and the readers of the selected tracks: it tells
 /// which job is to be done next, takes its outcome, gives each reader its packets, and keeps a
@@ -53,7 +53,7 @@ pub struct Demux {
     /// An outcome writes it; a seek and a selection take it away.
     pub(crate) fed: bool,
     /// All that happened, the oldest record first. Each call writes behind it.
-    pub(crate) journal: DemuxJournal,
+    pub(crate) journal: Records,
 }
 
 impl Model for Demux {
@@ -124,18 +124,18 @@ impl Demux {
     }
 
     /// The records so far, the oldest first.
-    pub fn journal(&self) -> &DemuxJournal
-        ensures value { result.now.items ≡ self.now.journal }
+    pub fn journal(&self) -> &[DemuxRecord]
+        ensures value { result.now ≡ self.now.journal }
         ensures demux { IsDemux self.now }
     {
-        &self.journal
+        self.journal.as_slice()
     }
 
     /// The records, the oldest first.
     pub fn into_journal(self) -> DemuxJournal
-        ensures value { result.items ≡ self.journal }
+        ensures value { result ≡ self.journal }
     {
         let Demux { journal, .. } = self;
-        journal
+        DemuxJournal::from_vec(journal)
     }
 }

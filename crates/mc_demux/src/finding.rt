@@ -15,7 +15,7 @@ ghost use Rattle.mc_journal.specs.Callers.{Grew, demuxer};
 ghost use Rattle.mc_demux.specs.Outcomes.{BringsStarts, Finds, StartsFit, head_at, heads_at};
 
 use crate::answer::{DemuxError, Taken};
-use crate::demux::{Demux, DemuxJournal};
+use crate::demux::{Demux, Records};
 use crate::joining::{settle, tell_drops};
 use crate::reading::FULL;
 use mc_cache::Cache;
@@ -78,7 +78,7 @@ fn begin_range(
     cache: &mut Cache,
     set: Choice,
     starts: &Starts,
-    journal: &mut DemuxJournal,
+    journal: &mut Records,
 ) -> Result<(), NoMemory>
     // no range is current, and the starts are of these tracks
     requires none { cache.old.current ≡ None }
@@ -116,7 +116,7 @@ fn begin(
     set: Choice,
     added: Choice,
     starts: &Starts,
-    journal: &mut DemuxJournal,
+    journal: &mut Records,
 ) -> Result<(), NoMemory>
     // the starts are of these tracks, and the current range, if there is one, may take them
     requires distinct { is_distinct set ≡ true }

@@ -5,14 +5,14 @@ ghost use Rattle.mc_cache.specs.Pruning.{back_of};
 ghost use Rattle.mc_cache.specs.Rooms.{HasRoomToJoin};
 ghost use Rattle.mc_demux.specs.Settling.{Settles, TellsJoins, with_drops, with_joins};
 
-use crate::demux::DemuxJournal;
+use crate::demux::Records;
 use crate::trim::trim;
 use mc_cache::{Cache, Drops};
 use mc_journal::DemuxRecord;
 use mc_packet::Heads;
 
 /// Tells so many joins.
-fn tell_joins(by: u32, joined: u32, journal: &mut DemuxJournal)
+fn tell_joins(by: u32, joined: u32, journal: &mut Records)
     requires room { vec_len journal.old + joined ≤ vec_capacity journal.old }
     ensures told { journal.new.items ≡ with_joins by journal.old.items joined }
     ensures len { vec_len journal.new ≡ vec_len journal.old + joined }
@@ -24,7 +24,7 @@ fn tell_joins(by: u32, joined: u32, journal: &mut DemuxJournal)
 }
 
 /// Tells each drop.
-pub(crate) fn tell_drops(by: u32, drops: &Drops, journal: &mut DemuxJournal)
+pub(crate) fn tell_drops(by: u32, drops: &Drops, journal: &mut Records)
     requires room { vec_len journal.old + length drops.now ≤ vec_capacity journal.old }
     ensures told { journal.new.items ≡ with_drops by journal.old.items drops.now }
     ensures len { vec_len journal.new ≡ vec_len journal.old + length drops.now }
@@ -37,7 +37,7 @@ pub(crate) fn tell_drops(by: u32, drops: &Drops, journal: &mut DemuxJournal)
 
 /// Joins the current range with each other one that touches it, and tells each join.
 #[tactic(auto, using(crate::proofs::Roomy::tied_up))]
-fn join(by: u32, cache: &mut Cache, journal: &mut DemuxJournal)
+fn join(by: u32, cache: &mut Cache, journal: &mut Records)
     // there is room for the joins and for what is told of them
     requires joins { HasRoomToJoin cache.old }
     requires room { vec_len journal.old + 30 ≤ vec_capacity journal.old }
@@ -59,7 +59,7 @@ fn join(by: u32, cache: &mut Cache, journal: &mut DemuxJournal)
 
 /// Joins the current range with each other one that touches it, and then drops packets as the limit
 /// asks. Each join and each drop is told.
-pub(crate) fn settle(by: u32, cache: &mut Cache, heads: &Heads, journal: &mut DemuxJournal)
+pub(crate) fn settle(by: u32, cache: &mut Cache, heads: &Heads, journal: &mut Records)
     requires joins { HasRoomToJoin cache.old }
     requires room { vec_len journal.old + count_of (ranges_of cache.old) + 32
         ≤ vec_capacity journal.old }

@@ -66,7 +66,7 @@ mod waiting;
 mod wanting;
 
 pub use answer::{DemuxError, Peek, Reading, Selected, Taken};
-pub use demux::{Demux, DemuxJournal};
+pub use demux::Demux;
 pub use job::Job;
 pub use law::{resting_readers, standing_journals};
 pub use shows::shown_readers;

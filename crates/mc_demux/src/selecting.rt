@@ -13,7 +13,7 @@ ghost use Rattle.mc_demux.specs.Selecting.{Selects, Switches, added_to, sought_a
 
 use crate::answer::{DemuxError, Selected};
 use crate::choosing::{choice_of, refusal_of};
-use crate::demux::{Demux, DemuxJournal};
+use crate::demux::{Demux, Records};
 use crate::reading::{FULL, has};
 use crate::seek::nothing;
 use crate::trim::trim;
@@ -34,7 +34,7 @@ fn waiting_after(seeking: Option<Target>, added: Choice) -> Choice
 }
 
 /// Tells of a pending seek again, which is of the new set then.
-fn write_sought(journal: &mut DemuxJournal, by: u32, set: Choice, seeking: Option<Target>)
+fn write_sought(journal: &mut Records, by: u32, set: Choice, seeking: Option<Target>)
     requires { vec_len journal.old < vec_capacity journal.old }
     ensures items { journal.new.items ≡ journal.old.items ++ sought_again by set seeking }
     ensures few { vec_len journal.new ≤ vec_len journal.old + 1 }
@@ -52,7 +52,7 @@ fn write_sought(journal: &mut DemuxJournal, by: u32, set: Choice, seeking: Optio
 }
 
 /// Tells of packets that went.
-fn write_drops(journal: &mut DemuxJournal, by: u32, drops: &[Removal])
+fn write_drops(journal: &mut Records, by: u32, drops: &[Removal])
     requires { vec_len journal.old + length drops.now ≤ vec_capacity journal.old }
     ensures items { journal.new.items ≡ journal.old.items ++ told_drops by drops.now }
     ensures few { vec_len journal.new ≡ vec_len journal.old + length drops.now }
@@ -65,7 +65,7 @@ fn write_drops(journal: &mut DemuxJournal, by: u32, drops: &[Removal])
 
 /// Writes a selection's records: its own, a pending seek again, and what went.
 fn write_switch(
-    journal: &mut DemuxJournal,
+    journal: &mut Records,
     by: u32,
     own: DemuxRecord,
     set: Choice,

@@ -4,14 +4,14 @@ ghost use Rattle.mc_cache.specs.Cache.{IsCache, count_of, ranges_of};
 ghost use Rattle.mc_cache.specs.Pruning.{back_of};
 ghost use Rattle.mc_demux.specs.Trimming.{Trims};
 
-use crate::demux::DemuxJournal;
+use crate::demux::Records;
 use mc_cache::Cache;
 use mc_journal::DemuxRecord;
 use mc_packet::Heads;
 
 /// Drops packets as long as the octets behind the readers are more than the limit, and tells each
 /// drop. The journal has room for them and two records more.
-pub(crate) fn trim(by: u32, cache: &mut Cache, heads: &Heads, journal: &mut DemuxJournal)
+pub(crate) fn trim(by: u32, cache: &mut Cache, heads: &Heads, journal: &mut Records)
     requires room { vec_len journal.old + count_of (ranges_of cache.old) + 2
         ≤ vec_capacity journal.old }
     ensures value { Trims by heads.now cache.old journal.old.items cache.new journal.new.items }

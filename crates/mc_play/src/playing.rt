@@ -98,7 +98,7 @@ pub(crate) fn play<D: Shelf>(
     let halt = run_script(&mut driver, shelf, script.as_slice());
     let Driver { demux, .. } = driver;
     Ok(Played {
-        hd: DemuxJournal::from_vec(demux.into_journal()),
+        hd: demux.into_journal(),
         halt,
     })
 }

@@ -1,17 +1,27 @@
+//! What the calls of a demuxer answer.
 use mc_packet::{Ending, NoMemory, Packet, Pos, Why};
 
 /// Whether the outcome of a job was taken.
 #[derive(Clone, Copy, Debug, PartialEq, Eq)]
 pub enum Taken {
+    /// It was taken, and the next job bears the next number.
     Taken,
-    /// It was brought under the number `asked`, while the demuxer's is `now`: it changed nothing.
-    Stale { asked: u64, now: u64 },
+    /// It was brought under another number than the present one, and changed nothing: a seek, a
+    /// selection or another outcome came between.
+    Stale {
+        /// The number under which it was brought.
+        asked: u64,
+        /// The present number.
+        now: u64,
+    },
 }
 
 /// Whether a selection changed anything.
 #[derive(Clone, Copy, Debug, PartialEq, Eq)]
 pub enum Selected {
+    /// These tracks were selected already; nothing was recorded.
     Same,
+    /// Others are selected from now on.
     Changed,
 }
 
@@ -24,11 +34,21 @@ pub enum Reading {
     NotYet,
     /// There is none any more, and this is how the film ends.
     End(Ending),
-    /// Nothing more is read for now: `forward` octets stand ahead of the readers, and the limit on
-    /// them is `max`.
-    Overfull { forward: u64, max: u64 },
-    /// A read of the file failed, with the shelf's count of faults before and after.
-    Fault { before: u64, after: u64 },
+    /// Nothing more is read for now, since enough stands ahead of the readers.
+    Overfull {
+        /// The octets ahead of the readers in the current range; each packet counts for 64 more
+        /// than its payload has.
+        forward: u64,
+        /// The limit on them.
+        max: u64,
+    },
+    /// A read of the file failed.
+    Fault {
+        /// The shelf's count of faults before the read.
+        before: u64,
+        /// Its count after the read.
+        after: u64,
+    },
     /// Memory was wanting to read on.
     Wanting,
     /// The track is not selected.

@@ -22,7 +22,7 @@ pub(crate) fn is_empty(set: Choice) -> bool
     set.video.is_none() && set.audio.is_none() && set.sub.is_none()
 }
 
-/// A job that is kept until its outcome comes.
+// A job that is kept until its outcome comes.
 fn kept_job(job: Job) -> Option<Job>
     ensures { result ≡ kept_job job }
 {
@@ -93,7 +93,7 @@ impl Demux {
         }
     }
 
-    /// Makes room for the record of a job's outcome and one more.
+    // Makes room for the record of a job's outcome and one more.
     fn make_room_for_outcome(&mut self) -> Result<(), NoMemory>
         ensures same { IsRoomy self.old self.new }
         ensures ok { OnOk result (2 ≤ self.new.spare) }

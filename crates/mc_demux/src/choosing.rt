@@ -38,7 +38,7 @@ pub(crate) fn is_listed_as(list: &TrackList, kind: Kind, no: TrackNo) -> bool
     }
 }
 
-/// Whether two numbers are of different tracks of one kind.
+// Whether two numbers are of different tracks of one kind.
 fn is_twin(list: &TrackList, no: TrackNo, other: TrackNo) -> bool
     ensures { result ≡ is_twin list.now no other }
 {
@@ -54,7 +54,7 @@ fn has_twin(list: &TrackList, no: TrackNo, seen: &[TrackNo]) -> bool
     seen.iter().any(|other| is_twin(list, no, *other))
 }
 
-/// The first number whose kind another one before it has.
+// The first number whose kind another one before it has.
 #[tactic(auto, using(crate::proofs::Twins::twin_next))]
 fn first_twin(list: &TrackList, numbers: &[TrackNo]) -> Option<TrackNo>
     ensures { result ≡ first_twin list.now [] numbers.now }
@@ -86,8 +86,8 @@ fn first_of<'a>(list: &TrackList, kind: Kind, numbers: &'a [TrackNo]) -> Option<
     numbers.iter().find(|no| is_listed_as(list, kind, **no))
 }
 
-/// Why a list of numbers selects nothing: one of them is not listed; else one is of a track whose
-/// blocks can't be read; else one is of a second track of a kind. The first such number is told.
+// Why a list of numbers selects nothing: one of them is not listed; else one is of a track whose
+// blocks can't be read; else one is of a second track of a kind. The first such number is told.
 pub(crate) fn refusal_of(list: &TrackList, numbers: &[TrackNo]) -> Option<Why>
     ensures { result ≡ refusal_of list.now numbers.now }
 {
@@ -103,7 +103,7 @@ pub(crate) fn refusal_of(list: &TrackList, numbers: &[TrackNo]) -> Option<Why>
     }
 }
 
-/// The first track of each kind.
+// The first track of each kind.
 pub(crate) fn choice_of(list: &TrackList, numbers: &[TrackNo]) -> Choice
     ensures { result ≡ choice_of list.now numbers.now }
 {

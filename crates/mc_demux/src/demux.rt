@@ -1,3 +1,4 @@
+//! A demuxer, and what it is asked without a change.
 ghost use Rattle.std.specs.Prelude.{◌≡◌, Option, Some, None};
 ghost use Rattle.mc_cache.specs.Cache.{mark_in};
 ghost use Rattle.mc_demux.specs.State.{DemuxState};

@@ -19,7 +19,7 @@ use crate::reading::FULL;
 use mc_journal::{DEMUXER, DemuxRecord};
 use mc_packet::{Chunk, Mark, NoMemory};
 
-/// Whether a range is read on from this mark.
+// Whether a range is read on from this mark.
 fn is_at(mark: Mark, current: Option<Mark>) -> bool
     ensures { result ≡ is_at mark current }
 {
@@ -30,7 +30,7 @@ fn is_at(mark: Mark, current: Option<Mark>) -> bool
 }
 
 impl Demux {
-    /// Makes room for a part of the film, for the joins after it, and for all that is told of it.
+    // Makes room for a part of the film, for the joins after it, and for all that is told of it.
     fn make_room_to_feed(&mut self, chunk: &Chunk) -> Result<(), NoMemory>
         requires shape { HasShape chunk.now }
         ensures same { IsAsBefore self.old self.new }
@@ -42,7 +42,7 @@ impl Demux {
         self.cache.make_room_to_feed(chunk)
     }
 
-    /// Feeds the current range, tells of it, joins, and drops packets as the limit asks.
+    // Feeds the current range, tells of it, joins, and drops packets as the limit asks.
     fn take_part(&mut self, chunk: Chunk) -> Result<(), NoMemory>
         requires kept { IsSomeAnd self.old.kept (PartFits chunk) }
         requires here { mark_in self.old.cache.current ≡ Some chunk.from }

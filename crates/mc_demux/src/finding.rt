@@ -37,7 +37,7 @@ fn head_at(start: Option<u64>, head: Option<Pos>) -> Option<Pos>
     }
 }
 
-/// The heads, where those of tracks whose start was found are there.
+// The heads, where those of tracks whose start was found are there.
 pub(crate) fn heads_at(starts: &Starts, heads: Heads) -> Heads
     ensures { result ≡ heads_at starts.now heads }
 {
@@ -48,7 +48,7 @@ pub(crate) fn heads_at(starts: &Starts, heads: Heads) -> Heads
     }
 }
 
-/// Gives the current range an empty queue of an added track, if there is one.
+// Gives the current range an empty queue of an added track, if there is one.
 fn add_one(cache: &mut Cache, kind: Kind, track: Option<TrackNo>, start: Option<u64>, mark: Mark)
     requires may { MayAddOne kind track start mark cache.old }
     ensures value { AddsOne kind track start mark cache.old cache.new }
@@ -61,7 +61,7 @@ fn add_one(cache: &mut Cache, kind: Kind, track: Option<TrackNo>, start: Option<
     }
 }
 
-/// Gives the current range an empty queue of each added track.
+// Gives the current range an empty queue of each added track.
 #[tactic(auto, using(crate::proofs::Adding::still_may))]
 fn add_tracks(cache: &mut Cache, added: Choice, starts: &Starts)
     requires may { MayAddAll added starts.now cache.old }
@@ -73,7 +73,7 @@ fn add_tracks(cache: &mut Cache, added: Choice, starts: &Starts)
     add_one(cache, Kind::Sub, added.sub, starts.sub, starts.mark);
 }
 
-/// Begins a new range, and tells of its starts and of an eleventh range that goes for it.
+// Begins a new range, and tells of its starts and of an eleventh range that goes for it.
 fn begin_range(
     cache: &mut Cache,
     set: Choice,
@@ -108,8 +108,8 @@ fn begin_range(
     Ok(())
 }
 
-/// Gives the current range the added tracks, or begins a new range where none is current, and tells
-/// of the starts.
+// Gives the current range the added tracks, or begins a new range where none is current, and tells
+// of the starts.
 #[tactic(auto, using(crate::proofs::Beginning::begins_some))]
 fn begin(
     cache: &mut Cache,
@@ -148,7 +148,7 @@ fn begin(
 }
 
 impl Demux {
-    /// Makes room for starts, for the joins after them, and for all that is told of them.
+    // Makes room for starts, for the joins after them, and for all that is told of them.
     fn make_room_to_find(&mut self, starts: &Starts) -> Result<(), NoMemory>
         requires kept { IsSomeAnd self.old.kept (StartsFit starts.now) }
         ensures same { IsAsBefore self.old self.new }
@@ -164,7 +164,7 @@ impl Demux {
         self.cache.make_room_to_start(self.set, starts)
     }
 
-    /// Takes the starts, tells of them, joins, and drops packets as the limit asks.
+    // Takes the starts, tells of them, joins, and drops packets as the limit asks.
     fn take_starts(&mut self, starts: &Starts) -> Result<(), NoMemory>
         requires kept { IsSomeAnd self.old.kept (StartsFit starts.now) }
         requires ready { IfNone self.old.cache.current

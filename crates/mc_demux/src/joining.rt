@@ -11,7 +11,7 @@ use mc_cache::{Cache, Drops};
 use mc_journal::DemuxRecord;
 use mc_packet::Heads;
 
-/// Tells so many joins.
+// Tells so many joins.
 fn tell_joins(by: u32, joined: u32, journal: &mut Records)
     requires room { vec_len journal.old + joined ≤ vec_capacity journal.old }
     ensures told { journal.new.items ≡ with_joins by journal.old.items joined }
@@ -23,7 +23,7 @@ fn tell_joins(by: u32, joined: u32, journal: &mut Records)
     }
 }
 
-/// Tells each drop.
+// Tells each drop.
 pub(crate) fn tell_drops(by: u32, drops: &Drops, journal: &mut Records)
     requires room { vec_len journal.old + length drops.now ≤ vec_capacity journal.old }
     ensures told { journal.new.items ≡ with_drops by journal.old.items drops.now }
@@ -35,7 +35,7 @@ pub(crate) fn tell_drops(by: u32, drops: &Drops, journal: &mut Records)
     }
 }
 
-/// Joins the current range with each other one that touches it, and tells each join.
+// Joins the current range with each other one that touches it, and tells each join.
 #[tactic(auto, using(crate::proofs::Roomy::tied_up))]
 fn join(by: u32, cache: &mut Cache, journal: &mut Records)
     // there is room for the joins and for what is told of them
@@ -57,8 +57,8 @@ fn join(by: u32, cache: &mut Cache, journal: &mut Records)
     }
 }
 
-/// Joins the current range with each other one that touches it, and then drops packets as the limit
-/// asks. Each join and each drop is told.
+// Joins the current range with each other one that touches it, and then drops packets as the limit
+// asks. Each join and each drop is told.
 pub(crate) fn settle(by: u32, cache: &mut Cache, heads: &Heads, journal: &mut Records)
     requires joins { HasRoomToJoin cache.old }
     requires room { vec_len journal.old + count_of (ranges_of cache.old) + 32

@@ -29,7 +29,7 @@ fn first_start(track: Option<TrackNo>) -> Option<u64>
     }
 }
 
-/// Each selected track starts at the film's beginning, from where the film is read first.
+// Each selected track starts at the film's beginning, from where the film is read first.
 fn first_starts(set: Choice) -> Starts
     ensures { result ≡ first_starts set }
 {
@@ -63,7 +63,7 @@ fn first_heads(starts: &Starts) -> Heads
     }
 }
 
-/// A cache whose one range begins at these starts.
+// A cache whose one range begins at these starts.
 #[tactic(auto, using(crate::proofs::Opened::video_at, crate::proofs::Opened::audio_at, crate::proofs::Opened::sub_at, crate::proofs::Opened::begins_there, crate::proofs::Opened::none_beside))]
 fn first_cache(
     alloc: Global,

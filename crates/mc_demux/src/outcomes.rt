@@ -1,3 +1,4 @@
+//! Jobs that come to nothing.
 ghost use Rattle.std.specs.Prelude.{◌≡◌, true, is_some, List, ◌++◌, ◌∷◌, [], None};
 ghost use Rattle.mc_journal.specs.Films.{Film};
 ghost use Rattle.mc_journal.specs.declared.record.DemuxRecord.TheVariants.{Failed as FailedRecord, Starved as StarvedRecord};
@@ -70,7 +71,7 @@ impl Demux {
         Taken::Taken
     }
 
-    /// Reads nothing on, and tells why.
+    // Reads nothing on, and tells why.
     fn stop(&mut self, failure: Failure)
         requires kept { is_some self.old.kept ≡ true }
         ensures value { self.new ≡ failed_on failure (failure_record failure) self.old }

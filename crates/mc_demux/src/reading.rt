@@ -1,3 +1,4 @@
+//! What a reader is told.
 ghost use Rattle.std.specs.Prelude.{◌≡◌, ◌≤◌, ◌<◌, ◌+◌, ◌^◌, true, List, ◌++◌, ◌∷◌, [], IfOk, IfSome, OnOk, OnErr, nat_le, if◌then◌else◌, None};
 ghost use Rattle.std.specs.Option.{option_copied};
 ghost use Rattle.mc_packet.specs.Choices.{has, is_track};
@@ -131,7 +132,7 @@ fn record_of(by: u32, track: TrackNo, reading: &Reading) -> Option<DemuxRecord>
     }
 }
 
-/// What a reader is told that has to wait.
+// What a reader is told that has to wait.
 fn waiting_for(failure: Option<Failure>, forward: u64, max: u64) -> Reading
     ensures { result ≡ waiting_for failure forward max }
 {
@@ -148,7 +149,7 @@ fn waiting_for(failure: Option<Failure>, forward: u64, max: u64) -> Reading
     }
 }
 
-/// The place just behind a packet's.
+// The place just behind a packet's.
 #[tactic(auto, unfolding(mc_journal::specs::Films::rank))]
 pub(crate) fn past(pos: Pos) -> Pos
     requires { rank pos + 1 < 2 ^ 80 }
@@ -183,7 +184,7 @@ impl Demux {
         }
     }
 
-    /// The packet of a track at its head.
+    // The packet of a track at its head.
     fn next(&self, track: TrackNo) -> Option<&Packet>
         ensures value { option_copied result
             ≡ next_in self.now.set self.now.heads track self.now.cache.current }
@@ -195,7 +196,7 @@ impl Demux {
         }
     }
 
-    /// How the film ends, where the current range reaches so far and has a queue of the track.
+    // How the film ends, where the current range reaches so far and has a queue of the track.
     fn end_of(&self, track: TrackNo) -> Option<Ending>
         requires selected { has self.now.set track ≡ true }
         ensures value { result ≡ end_in track self.now.cache.current }
@@ -207,7 +208,7 @@ impl Demux {
         }
     }
 
-    /// What a reader is told where no packet is at its head.
+    // What a reader is told where no packet is at its head.
     fn past_packets(&self, track: TrackNo) -> Reading
         requires selected { has self.now.set track ≡ true }
         ensures value { result ≡ past_packets (end_in track self.now.cache.current)
@@ -222,7 +223,7 @@ impl Demux {
         }
     }
 
-    /// What a reader of the track is told.
+    // What a reader of the track is told.
     fn answer(&self, track: TrackNo) -> Result<Reading, NoMemory>
         ensures value { IfOk result (λ r. r ≡ reading_of track self.now) }
         ensures below { IfOk result IsBelow }
@@ -255,7 +256,7 @@ impl Demux {
         }
     }
 
-    /// Makes room in the journal for a record, for a drop of each packet and for two records more.
+    // Makes room in the journal for a record, for a drop of each packet and for two records more.
     pub(crate) fn make_room(&mut self) -> Result<(), NoMemory>
         ensures same { IsRoomy self.old self.new }
         ensures ok { OnOk result (count_of (ranges_of self.new.cache) + 3 ≤ self.new.spare) }
@@ -265,7 +266,7 @@ impl Demux {
         self.journal.reserve(held + 64)
     }
 
-    /// Writes a record, moves the heads, and drops packets as the limit asks.
+    // Writes a record, moves the heads, and drops packets as the limit asks.
     fn give(&mut self, by: u32, own: DemuxRecord, heads: Heads, ended: Choice)
         requires room { count_of (ranges_of self.old.cache) + 3 ≤ self.old.spare }
         requires placed { IsPlaced
@@ -280,7 +281,7 @@ impl Demux {
         trim(by, &mut self.cache, &self.heads, &mut self.journal);
     }
 
-    /// Tells a reader what it is told, in the journal too.
+    // Tells a reader what it is told, in the journal too.
     fn tell(
         &mut self,
         by: u32,

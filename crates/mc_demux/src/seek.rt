@@ -22,7 +22,7 @@ use mc_cache::Cache;
 use mc_journal::{DemuxRecord, Sought};
 use mc_packet::{Choice, Dir, Heads, NoMemory, Why};
 
-/// No track.
+// No track.
 pub(crate) fn nothing() -> Choice
     ensures { result ≡ nothing }
 {
@@ -42,8 +42,8 @@ fn target_after(t: i64, dir: Dir, how: Sought) -> Option<Target>
     }
 }
 
-/// Turns to the range that serves a seek, and the heads to where it is read then; or leaves the
-/// current range where none serves.
+// Turns to the range that serves a seek, and the heads to where it is read then; or leaves the
+// current range where none serves.
 #[tactic(auto, using(crate::proofs::Sought::served_by))]
 fn turn(cache: &mut Cache, heads: &mut Heads, set: Choice, t: i64, dir: Dir) -> Sought
     ensures value { Turns set t dir result cache.old cache.new }
@@ -65,7 +65,7 @@ fn turn(cache: &mut Cache, heads: &mut Heads, set: Choice, t: i64, dir: Dir) -> 
 }
 
 impl Demux {
-    /// Writes that a call is refused, and why. `NoMemory` leaves all as it was but room.
+    // Writes that a call is refused, and why. `NoMemory` leaves all as it was but room.
     pub(crate) fn refuse(&mut self, by: u32, why: Why) -> Result<(), NoMemory>
         ensures ok { OnOk result (IsRefused by why self.old self.new) }
         ensures err { OnErr result (IsRoomy self.old self.new) }
@@ -76,8 +76,8 @@ impl Demux {
         Ok(())
     }
 
-    /// Writes a seek and how it is answered, turns the cache and the readers, and drops packets as
-    /// the limit asks.
+    // Writes a seek and how it is answered, turns the cache and the readers, and drops packets as
+    // the limit asks.
     fn go(&mut self, by: u32, t: i64, dir: Dir) -> Sought
         requires room { count_of (ranges_of self.old.cache) + 3 ≤ self.old.spare }
         ensures value { Goes by t dir result self.old self.new }

@@ -23,7 +23,7 @@ use mc_cache::Removal;
 use mc_journal::{DemuxRecord, Sought};
 use mc_packet::{Choice, NoMemory, TrackNo};
 
-/// Added tracks wait, unless a seek is pending, which finds all starts.
+// Added tracks wait, unless a seek is pending, which finds all starts.
 fn waiting_after(seeking: Option<Target>, added: Choice) -> Choice
     ensures { result ≡ waiting_after seeking added }
 {
@@ -33,7 +33,7 @@ fn waiting_after(seeking: Option<Target>, added: Choice) -> Choice
     }
 }
 
-/// Tells of a pending seek again, which is of the new set then.
+// Tells of a pending seek again, which is of the new set then.
 fn write_sought(journal: &mut Records, by: u32, set: Choice, seeking: Option<Target>)
     requires { vec_len journal.old < vec_capacity journal.old }
     ensures items { journal.new.items ≡ journal.old.items ++ sought_again by set seeking }
@@ -51,7 +51,7 @@ fn write_sought(journal: &mut Records, by: u32, set: Choice, seeking: Option<Tar
     }
 }
 
-/// Tells of packets that went.
+// Tells of packets that went.
 fn write_drops(journal: &mut Records, by: u32, drops: &[Removal])
     requires { vec_len journal.old + length drops.now ≤ vec_capacity journal.old }
     ensures items { journal.new.items ≡ journal.old.items ++ told_drops by drops.now }
@@ -63,7 +63,7 @@ fn write_drops(journal: &mut Records, by: u32, drops: &[Removal])
     }
 }
 
-/// Writes a selection's records: its own, a pending seek again, and what went.
+// Writes a selection's records: its own, a pending seek again, and what went.
 fn write_switch(
     journal: &mut Records,
     by: u32,
@@ -100,7 +100,7 @@ impl Demux {
         }
     }
 
-    /// The tracks of a set that were not selected, or that wait.
+    // The tracks of a set that were not selected, or that wait.
     fn added_to(&self, set: Choice) -> Choice
         ensures { result ≡ added_to set self.now }
     {
@@ -111,7 +111,7 @@ impl Demux {
         }
     }
 
-    /// Selects a set that is not the present one.
+    // Selects a set that is not the present one.
     fn switch(&mut self, by: u32, set: Choice, at: i64) -> Result<(), NoMemory>
         requires known { is_known (knows self.old.list) set ≡ true }
         requires room { count_of (ranges_of self.old.cache) + 34 ≤ self.old.spare }

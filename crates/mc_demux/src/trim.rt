@@ -9,8 +9,8 @@ use mc_cache::Cache;
 use mc_journal::DemuxRecord;
 use mc_packet::Heads;
 
-/// Drops packets as long as the octets behind the readers are more than the limit, and tells each
-/// drop. The journal has room for them and two records more.
+// Drops packets as long as the octets behind the readers are more than the limit, and tells each
+// drop. The journal has room for them and two records more.
 pub(crate) fn trim(by: u32, cache: &mut Cache, heads: &Heads, journal: &mut Records)
     requires room { vec_len journal.old + count_of (ranges_of cache.old) + 2
         ≤ vec_capacity journal.old }

@@ -19,7 +19,7 @@ use crate::reading::{FULL, has, is_track};
 use mc_journal::DemuxRecord;
 use mc_packet::{CacheView, Choice, Ending, NoMemory, Status, TrackNo};
 
-/// The selected video track, else the selected audio track.
+// The selected video track, else the selected audio track.
 pub(crate) fn lead_of(set: Choice) -> Option<TrackNo>
     ensures { result ≡ lead_of set }
 {
@@ -63,8 +63,8 @@ fn newest_play(lead: Option<TrackNo>, journal: &[DemuxRecord]) -> Option<&DemuxR
     journal.iter().rev().find(|entry| tells_play(lead, entry))
 }
 
-/// The time of the last packet that was given to this track since the last seek or opening, else
-/// the seek's target.
+// The time of the last packet that was given to this track since the last seek or opening, else
+// the seek's target.
 #[tactic(auto, using(crate::proofs::Viewed::time_found))]
 fn time_of(lead: Option<TrackNo>, journal: &[DemuxRecord]) -> Option<i64>
     ensures { result ≡ time_of lead (reverse journal.now) }
@@ -76,7 +76,7 @@ fn time_of(lead: Option<TrackNo>, journal: &[DemuxRecord]) -> Option<i64>
     }
 }
 
-/// Whether this track was given a packet or its end since then.
+// Whether this track was given a packet or its end since then.
 #[tactic(auto, using(crate::proofs::Viewed::play_found))]
 fn plays(lead: Option<TrackNo>, journal: &[DemuxRecord]) -> bool
     ensures { result ≡ plays lead (reverse journal.now) }
@@ -105,7 +105,7 @@ fn flags(ending: Option<Ending>, ranges: usize) -> u64
 }
 
 impl Demux {
-    /// Whether something is selected, and the reader of each selected track was told the end.
+    // Whether something is selected, and the reader of each selected track was told the end.
     fn is_ended(&self) -> bool
         ensures { result ≡ is_ended self.now }
     {
@@ -143,7 +143,7 @@ impl Demux {
         })
     }
 
-    /// Writes what was shown. `NoMemory` leaves all as it was but room.
+    // Writes what was shown. `NoMemory` leaves all as it was but room.
     fn put_view(&mut self, by: u32, view: CacheView) -> Result<(), NoMemory>
         ensures ok { OnOk result (IsShown by view self.old self.new) }
         ensures err { OnErr result (IsRoomy self.old self.new) }

@@ -16,7 +16,7 @@ use crate::reading::{head_of, past};
 use mc_cache::Cache;
 use mc_packet::{Limits, Packet, Pos, TrackNo};
 
-/// How far a time is behind another, in nanoseconds.
+// How far a time is behind another, in nanoseconds.
 fn lag(from: i64, time: i64) -> i128
     ensures { result ≡ time -ℤ from }
 {
@@ -29,8 +29,8 @@ fn is_near(first: &Packet, limits: &Limits, packet: &Packet) -> bool
     lag(first.time, packet.time) < limits.readahead as i128
 }
 
-/// Whether all that is held of a track at a place or behind it is less than what is read ahead
-/// behind a first packet. It stops at one that is not.
+// Whether all that is held of a track at a place or behind it is less than what is read ahead
+// behind a first packet. It stops at one that is not.
 fn are_near(cache: &Cache, track: TrackNo, head: Pos, first: &Packet, limits: &Limits) -> bool
     ensures { result ≡ list_all (λ p. is_near first.now.time limits.now.readahead p.time)
         (held_from track head cache.now.current) }
@@ -47,7 +47,7 @@ fn are_near(cache: &Cache, track: TrackNo, head: Pos, first: &Packet, limits: &L
     true
 }
 
-/// Whether a track has nothing at a place, or less from there on than is read ahead.
+// Whether a track has nothing at a place, or less from there on than is read ahead.
 #[tactic(auto, using(crate::proofs::Nearness::none_near))]
 fn wants_from(cache: &Cache, track: TrackNo, head: Pos) -> bool
     ensures { result
@@ -80,7 +80,7 @@ impl Demux {
         }
     }
 
-    /// Video and audio are asked, a subtitle where it is alone.
+    // Video and audio are asked, a subtitle where it is alone.
     fn some_wants(&self) -> bool
         ensures { result ≡ some_wants self.now }
     {
@@ -91,7 +91,7 @@ impl Demux {
         }
     }
 
-    /// Whether the current range has its ending, or enough is read ahead.
+    // Whether the current range has its ending, or enough is read ahead.
     pub(crate) fn is_full(&self) -> bool
         ensures { result ≡ is_full self.now }
     {

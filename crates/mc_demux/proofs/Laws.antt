@@ -12,7 +12,7 @@ use Rattle.mc_journal.specs.Legal.{IsLegal, IsGapless}
 use Rattle.mc_journal.specs.Readings.{selected}
 use Rattle.mc_journal.specs.Stands.{stand}
 use Rattle.mc_journal.specs.Views.{head, next, was_ended}
-use Rattle.mc_journal.specs.Used.{IsUsed}
+use Rattle.mc_journal.specs.Used.{IsUsed, is_still}
 use Rattle.mc_journal.proofs.Laws.{allowed-legal, allowed-gapless, used-allowed}
 use Rattle.mc_demux.specs.State.{DemuxState, next_in}
 use Rattle.mc_demux.specs.Film.{StandsFor}
@@ -21,6 +21,9 @@ use Rattle.mc_demux.proofs.Ends.{rest-none, stays_done}
 
 pub stands_used : (film : Film) (d : DemuxState) → StandsFor film d → IsUsed film d.cache.limits (reverse d.journal)
 stands_used film d s = s.fits.used
+
+pub stands_still : (film : Film) (d : DemuxState) → StandsFor film d → is_still film.packets (reverse d.journal) ≡ true
+stands_still film d s = s.still
 
 pub stands_legal : (film : Film) (d : DemuxState) → StandsFor film d → IsRegular film.packets film.known → IsLegal film.packets film.ending (reverse d.journal)
 stands_legal film d s regular = allowed-legal film (reverse d.journal) s.fits.film_is regular (used-allowed film d.cache.limits (reverse d.journal) s.fits.used)

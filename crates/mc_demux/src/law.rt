@@ -4,7 +4,7 @@ ghost use Rattle.std.specs.Prelude.{◌≡◌, ℕ, true, None, reverse};
 ghost use Rattle.mc_packet.specs.Choices.{has};
 ghost use Rattle.mc_journal.specs.Films.{Film, IsRegular};
 ghost use Rattle.mc_journal.specs.Legal.{IsLegal, IsGapless};
-ghost use Rattle.mc_journal.specs.Used.{IsUsed};
+ghost use Rattle.mc_journal.specs.Used.{IsUsed, is_still};
 ghost use Rattle.mc_demux.specs.declared.answer.Peek.TheVariants.{Finish};
 ghost use Rattle.mc_demux.specs.declared.job.Job.TheVariants.{Idle};
 ghost use Rattle.mc_demux.specs.State.{DemuxState, next_in};
@@ -13,11 +13,14 @@ ghost use Rattle.mc_demux.specs.Demuxers.{IsDemux};
 ghost use Rattle.mc_demux.specs.Readings.{peek_at, reading_of};
 ghost use Rattle.mc_demux.specs.Film.{StandsFor};
 
-/// Each record of a demuxer that stands for a film stands in its place. So what its readers were
-/// given is, of each track, a front of a fresh reading on a regular film, and a run of the track's
-/// packets on any, and an end is told only where there is none left.
+/// Each record of a demuxer that stands for a film stands in its place, and behind the last one
+/// nothing is left to be told: no drop is due, no join has to come, and no seek has to be sent
+/// again. So what its readers were given is, of each track, a front of a fresh reading on a regular
+/// film, and a run of the track's packets on any, and an end is told only where there is none left.
 pub fn standing_journals()
     ensures used { (film : Film) (d : DemuxState) → StandsFor film d → IsUsed film d.cache.limits (reverse d.journal) }
+    ensures still { (film : Film) (d : DemuxState) → StandsFor film d
+        → is_still film.packets (reverse d.journal) ≡ true }
     ensures legal { (film : Film) (d : DemuxState) → StandsFor film d → IsRegular film.packets film.known → IsLegal film.packets film.ending (reverse d.journal) }
     ensures gapless { (film : Film) (d : DemuxState) → StandsFor film d → IsGapless film.packets film.ending (reverse d.journal) }
 {}

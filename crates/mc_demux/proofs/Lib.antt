@@ -57,3 +57,5 @@ pub mod Remarked
 pub mod Grown
 pub mod FilmEleventh
 pub mod FilmBegins
+pub mod Merging
+pub mod Copied

@@ -27,6 +27,7 @@ use Rattle.mc_demux.proofs.Failing.{reverse-push}
 use Rattle.mc_demux.proofs.Quiet.{shown_step}
 use Rattle.mc_demux.proofs.Seeking.{has_audio, has_sub, has_video}
 use Rattle.mc_demux.proofs.Turned.{holds_all, stand_is}
+use Rattle.mc_demux.proofs.Recalled.{own_tied}
 
 -- ---- the newest record that tells it
 
@@ -59,7 +60,7 @@ is_kept (Some n) test k = elim (cases_Bool (n == k)) [
   | inr o ↦ elim (cases_Bool (test n)) [ inl t ↦ rw (t, o) refl | inr f ↦ rw (f, o) refl ]
 ]
 
-both_or : (a b c t : Bool) → ((a && t) || ((b && t) || (c && t))) ≡ ((a || (b || c)) && t)
+pub both_or : (a b c t : Bool) → ((a && t) || ((b && t) || (c && t))) ≡ ((a || (b || c)) && t)
 both_or true b c true = refl
 both_or false true c true = refl
 both_or false false true true = refl
@@ -143,5 +144,6 @@ shown_keeps film old new by shown e k s =
       fits = subst (λ (x : CacheState). Fits film x.limits old.set x.current x.others old.heads old.seeking old.waiting old.switch old.failure old.ended (reverse (old.journal ++ own ∷ []))) (sym k.cache_is)
           (subst (λ (h : List DemuxRecord). Fits film old.cache.limits old.set old.cache.current old.cache.others old.heads old.seeking old.waiting old.switch old.failure old.ended h) push fits);
       still = subst (λ (h : List DemuxRecord). is_still film.packets h ≡ true) push refl;
+      tied = own_tied old own new.cache k.cache_is (record { switch = refl; number = refl; upto = refl; marks = refl }) s.tied;
       known = s.known;
     })

@@ -25,3 +25,4 @@ pub mod Opening
 pub mod Viewing
 pub mod Shows
 pub mod Marks
+pub mod Cached

@@ -46,6 +46,7 @@
 
 mod answer;
 mod asking;
+mod cached;
 mod choosing;
 mod demux;
 mod feeding;

@@ -29,6 +29,7 @@ use Rattle.mc_demux.proofs.Failing.{reverse-push}
 use Rattle.mc_demux.proofs.Forward.{forward-is}
 use Rattle.mc_demux.proofs.Giving.{gave_step}
 use Rattle.mc_demux.proofs.Quiet.{ended_step, overfull_step, faulted_step, wanting_step}
+use Rattle.mc_demux.proofs.Recalled.{SaysSame, gives_tied}
 use Rattle.mc_demux.proofs.Resting.{have_heads, own_set}
 use Rattle.mc_demux.proofs.Trimmed.{trimmed}
 use Rattle.mc_demux.proofs.Trims.{trims_keep}
@@ -37,6 +38,7 @@ use Rattle.mc_demux.proofs.Trims.{trims_keep}
 pub record IsTold (film : Film) (d : DemuxState) (heads : Heads) (ended : Choice) (own : DemuxRecord) : Type 0 where
   pub fits : Fits film d.cache.limits d.set d.cache.current d.cache.others heads d.seeking d.waiting d.switch d.failure ended (own ∷ reverse d.journal)
   pub still : is_still film.packets (own ∷ reverse d.journal) ≡ true
+  pub says : SaysSame (own ∷ reverse d.journal) (reverse d.journal)
 
 is_own : (film : Film) (d : DemuxState) (heads : Heads) (ended : Choice) (a own : DemuxRecord) → Some a ≡ Some own → IsTold film d heads ended a → IsTold film d heads ended own
 is_own film d heads ended a own e t = subst (λ (x : DemuxRecord). IsTold film d heads ended x) (some a own e) t
@@ -60,6 +62,7 @@ full_told film d by track true own s i sel none open_end sound le r =
       fits = overfull_step film d.cache.limits d.set d.cache.current d.cache.others d.heads d.seeking d.waiting d.switch d.failure d.ended h by track (forward_of d)
           s.fits s.still sel none open_end sound (sym counts) over;
       still = refl;
+      says = record { switch = refl; number = refl; upto = refl; marks = refl };
     })
 
 told_by : (film : Film) (d : DemuxState) (by track : ℕ) (o : Option Packet) (e : Option Ending) (f : Option Failure) (own : DemuxRecord) → StandsFor film d → IsDemux d
@@ -70,21 +73,25 @@ told_by film d by track (Some p) e f own s i sel next end bad r =
     is_own film d (heads_after track (Gave p) d) d.ended (gave_by by p) own r (record {
       fits = gave_step film d.cache.limits d.set d.cache.current d.cache.others d.heads d.seeking d.waiting d.switch d.failure d.ended (reverse d.journal) by track p s.fits s.still sel next;
       still = refl;
+      says = record { switch = refl; number = refl; upto = refl; marks = refl };
     })
 told_by film d by track None (Some ending) f own s i sel next end bad r =
     is_own film d d.heads (ended_after track (End ending) d) (Ended by track ending) own r (record {
       fits = ended_step film d.cache.limits d.set d.cache.current d.cache.others d.heads d.seeking d.waiting d.switch d.failure d.ended (reverse d.journal) by track ending s.fits s.still sel next end;
       still = refl;
+      says = record { switch = refl; number = refl; upto = refl; marks = refl };
     })
 told_by film d by track None None (Some (Failed before after)) own s i sel next end bad r =
     is_own film d d.heads d.ended (Faulted by track before after) own r (record {
       fits = faulted_step film d.cache.limits d.set d.cache.current d.cache.others d.heads d.seeking d.waiting d.switch d.failure d.ended (reverse d.journal) by track before after s.fits s.still sel next end bad;
       still = refl;
+      says = record { switch = refl; number = refl; upto = refl; marks = refl };
     })
 told_by film d by track None None (Some Starved) own s i sel next end bad r =
     is_own film d d.heads d.ended (WantingRecord by track) own r (record {
       fits = wanting_step film d.cache.limits d.set d.cache.current d.cache.others d.heads d.seeking d.waiting d.switch d.failure d.ended (reverse d.journal) by track s.fits s.still sel next end bad;
       still = refl;
+      says = record { switch = refl; number = refl; upto = refl; marks = refl };
     })
 told_by film d by track None None None own s i sel next end bad r =
     full_told film d by track (nat_le d.cache.limits.forward (forward_of d)) own s i sel next end bad refl r
@@ -118,6 +125,7 @@ gives_keep film old new by own heads ended i p s t g =
     subst (λ (d : DemuxState). StandsFor film d) (sym g.changed) (record {
       fits = subst (λ (l : Limits). Fits film l old.set new.cache.current new.cache.others heads old.seeking old.waiting old.switch old.failure ended (reverse new.journal)) (sym lim) all.fits;
       still = all.still;
+      tied = gives_tied old new by own heads ended g t.says s.tied;
       known = s.known;
     })
 

@@ -13,6 +13,7 @@ use Rattle.mc_demux.specs.Demuxers.{IsDemux, KeepsJob}
 use Rattle.mc_demux.specs.Outcomes.{failed_on}
 use Rattle.mc_demux.specs.Film.{Fits, StandsFor, failure_record}
 use Rattle.mc_demux.proofs.Quiet.{failed_step, starved_step}
+use Rattle.mc_demux.proofs.Recalled.{StopSays, stop_tied}
 
 pub reverse-push : (xs : List DemuxRecord) (r : DemuxRecord) → reverse (xs ++ r ∷ []) ≡ r ∷ reverse xs
 reverse-push xs r = reverse-append xs (r ∷ [])
@@ -33,6 +34,10 @@ stopped_still : (film : Film) (h : List DemuxRecord) (failure : Failure) → is_
 stopped_still film h (Failed before after) = refl
 stopped_still film h Starved = refl
 
+stop_says : (h : List DemuxRecord) (failure : Failure) → StopSays (failure_record failure) h
+stop_says h (Failed before after) = record { switch = refl; number = refl; upto = refl; marks = refl }
+stop_says h Starved = record { switch = refl; number = refl; upto = refl; marks = refl }
+
 pub stop_keeps : (film : Film) (old new : DemuxState) (failure : Failure) → IfSome old.kept (KeepsJob old) → is_some old.kept ≡ true
     → new ≡ failed_on failure (failure_record failure) old → StandsFor film old → StandsFor film new
 stop_keeps film old new failure k some e s =
@@ -40,5 +45,6 @@ stop_keeps film old new failure k some e s =
       fits = subst (λ (h : List DemuxRecord). Fits film old.cache.limits old.set old.cache.current old.cache.others old.heads old.seeking old.waiting old.switch (Some failure) old.ended h)
           (sym (reverse-push old.journal (failure_record failure))) (stopped_fits film old failure s (sound_kept old old.kept k some));
       still = subst (λ (h : List DemuxRecord). is_still film.packets h ≡ true) (sym (reverse-push old.journal (failure_record failure))) (stopped_still film (reverse old.journal) failure);
+      tied = stop_tied old (failure_record failure) (stop_says (reverse old.journal) failure) s.tied;
       known = s.known;
     })

@@ -41,6 +41,7 @@ use Rattle.mc_demux.proofs.FilmSettled.{settle_keeps}
 use Rattle.mc_demux.proofs.FilmStarts.{MayTell, found_step, may_tell}
 use Rattle.mc_demux.proofs.Settled.{settled}
 use Rattle.mc_demux.proofs.Starting.{starts_awaited}
+use Rattle.mc_demux.proofs.Recalled.{starts_tied}
 
 -- where joins come next
 pub record IsJoining (film : Film) (d : DemuxState) (starts : Starts) (c : CacheState) (j : List DemuxRecord) : Type 0 where
@@ -166,5 +167,6 @@ starts_keep film old new starts i k are t s =
     subst (λ (d : DemuxState). StandsFor film d) (sym t.changed) (record {
       fits = subst (λ (l : Limits). Fits film l old.set new.cache.current new.cache.others heads None nothing old.switch old.failure old.ended (reverse new.journal)) (sym lim) rest.fits;
       still = rest.still;
+      tied = starts_tied old new starts i k t s.tied;
       known = s.known;
     })

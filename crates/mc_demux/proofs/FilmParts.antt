@@ -47,6 +47,7 @@ use Rattle.mc_demux.proofs.Parts.{fed_cache, fed_sets, is_reading}
 use Rattle.mc_demux.proofs.Quiet.{tidy}
 use Rattle.mc_demux.proofs.SameTracks.{placed_same, places_same}
 use Rattle.mc_demux.proofs.Settled.{settled}
+use Rattle.mc_demux.proofs.Recalled.{part_tied}
 
 -- ---- which track takes packets
 
@@ -204,5 +205,6 @@ part_keeps film old new chunk i k m part t s =
     subst (λ (d : DemuxState). StandsFor film d) (sym t.changed) (record {
       fits = subst (λ (l : Limits). Fits film l old.set new.cache.current new.cache.others old.heads old.seeking old.waiting old.switch old.failure old.ended (reverse new.journal)) (sym lim) rest.fits;
       still = rest.still;
+      tied = part_tied old new chunk t s.tied;
       known = s.known;
     })

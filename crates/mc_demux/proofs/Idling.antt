@@ -132,7 +132,7 @@ some_want_is film d s =
     asked_same d.set (wants d) (want_told film.packets d.cache.limits (reverse d.journal)) (λ k. want_is film d k s)
     ∙ ap (λ (c : Choice). asked c (want_told film.packets d.cache.limits (reverse d.journal))) (set_is film d s)
 
-full_is : (film : Film) (d : DemuxState) → IsDemux d → StandsFor film d → is_full d ≡ full_told film.packets d.cache.limits (reverse d.journal)
+pub full_is : (film : Film) (d : DemuxState) → IsDemux d → StandsFor film d → is_full d ≡ full_told film.packets d.cache.limits (reverse d.journal)
 full_is film d i s =
     let h = reverse d.journal in
     let end : is_some (ending_in d.cache.current) ≡ is_some (ending_told (stand film.packets h).current) =

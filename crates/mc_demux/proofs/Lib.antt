@@ -57,5 +57,8 @@ pub mod Remarked
 pub mod Grown
 pub mod FilmEleventh
 pub mod FilmBegins
+pub mod ByJournal
 pub mod Merging
 pub mod Copied
+pub mod Recalled
+pub mod Jobbing

@@ -39,6 +39,7 @@ use Rattle.mc_tracks.specs.Selection.{knows}
 use Rattle.mc_demux.proofs.Awaited.{none_await}
 use Rattle.mc_demux.proofs.Places.{if_queue, queue_selected}
 use Rattle.mc_demux.proofs.Seeking.{none_of, not_nothing}
+use Rattle.mc_demux.proofs.Recalled.{made_tied}
 
 -- ---- the cache
 
@@ -250,5 +251,6 @@ made_stands list set limits c heads none ended journal spare m film h =
           (subst (λ (o : Option RangeState). Fits film c.limits set o c.others (heads_at (first_starts set) no_heads) None nothing switch None nothing (Opened 0 set ∷ [])) (sym b.current_is)
           (subst (λ (rs : List RangeState). Fits film c.limits set (Some r) rs (heads_at (first_starts set) no_heads) None nothing switch None nothing (Opened 0 set ∷ [])) (sym m.no_others) fits)))));
       still = subst (λ (x : List DemuxRecord). is_still film.packets x ≡ true) told refl;
+      tied = made_tied c journal set r b.all b.begun.mark_is m.told;
       known = h.known;
     }

@@ -171,16 +171,20 @@ retracked_among marks set drops old new i a =
     let left = cond_both (is_empty set) None (option_map (retracked set) old.current) only (λ e. tt) (λ e. kept_among marks set old.current old.others a) in
     subst (λ (rs : List RangeState). AllByRecursion (Among marks) (in_front new.current rs)) (sym i.no_others) (subst only (sym i.current_is) left)
 
-pub switches_among : (by : ℕ) (set : Choice) (at : ℤ) (old new : DemuxState) → Switches by set at old new → AreAmong (marks_of old.cache) new.cache
-switches_among by set at old new s =
-    let marks = marks_of old.cache in
+pub switches_within : (marks : List Mark) (by : ℕ) (set : Choice) (at : ℤ) (old new : DemuxState) → Switches by set at old new → AreAmong marks old.cache → AreAmong marks new.cache
+switches_within marks by set at old new s a =
     trims-among marks by old.heads s.left (old.journal ++ (own_records by set at old ++ told_drops by s.drops)) new.cache new.journal s.trims
-    (retracked_among marks set s.drops old.cache s.left s.retracked (among_self old.cache))
+    (retracked_among marks set s.drops old.cache s.left s.retracked a)
+
+pub switches_among : (by : ℕ) (set : Choice) (at : ℤ) (old new : DemuxState) → Switches by set at old new → AreAmong (marks_of old.cache) new.cache
+switches_among by set at old new s = switches_within (marks_of old.cache) by set at old new s (among_self old.cache)
 
 -- ---- a seek
 
-pub goes_among : (by : ℕ) (t : ℤ) (dir : Dir) (how : How) (old new : DemuxState) → Goes by t dir how old new → AreAmong (marks_of old.cache) new.cache
-goes_among by t dir how old new g =
-    let marks = marks_of old.cache in
+pub goes_within : (marks : List Mark) (by : ℕ) (t : ℤ) (dir : Dir) (how : How) (old new : DemuxState) → Goes by t dir how old new → AreAmong marks old.cache → AreAmong marks new.cache
+goes_within marks by t dir how old new g a =
     trims-among marks by (heads_after t dir old) g.turned (old.journal ++ Sought by old.set t dir how ∷ []) new.cache new.journal g.trims
-    (turned_all (Among marks) old.set t dir how old.cache g.turned g.turns (among_self old.cache))
+    (turned_all (Among marks) old.set t dir how old.cache g.turned g.turns a)
+
+pub goes_among : (by : ℕ) (t : ℤ) (dir : Dir) (how : How) (old new : DemuxState) → Goes by t dir how old new → AreAmong (marks_of old.cache) new.cache
+goes_among by t dir how old new g = goes_within (marks_of old.cache) by t dir how old new g (among_self old.cache)

@@ -55,6 +55,7 @@ use Rattle.mc_demux.proofs.Switching.{AreDue, added_same, drops_step, resent_ste
 use Rattle.mc_demux.proofs.Trimmed.{trimmed}
 use Rattle.mc_demux.proofs.Trims.{trims_keep}
 use Rattle.mc_demux.proofs.Turned.{film_one, holds_all, stand_is}
+use Rattle.mc_demux.proofs.Recalled.{switches_tied}
 
 -- ---- a refusal tells no lack of tracks
 
@@ -237,5 +238,6 @@ switch_keeps film old new by next at i known other k s =
     subst (λ (d : DemuxState). StandsFor film d) (sym k.changed) (record {
       fits = subst (λ (l : Limits). Fits film l next new.cache.current new.cache.others old.heads old.seeking waits switch None nothing (reverse new.journal)) (sym lim) kept.fits;
       still = kept.still;
+      tied = switches_tied old new by next at k s.fits.seeks s.tied;
       known = s.known;
     })

@@ -66,7 +66,7 @@ limit_extra by (Wanting n track) h = absurd h
 limit_extra by (Shown n view) h = absurd h
 limit_extra by (Refused n why) h = absurd h
 
-limit_extras : (by : ℕ) (xs : List DemuxRecord) → AllByRecursion (IsLimitDrop by) xs → AllByRecursion (IsExtra by) xs
+pub limit_extras : (by : ℕ) (xs : List DemuxRecord) → AllByRecursion (IsLimitDrop by) xs → AllByRecursion (IsExtra by) xs
 limit_extras by [] h = tt
 limit_extras by (x ∷ xs) h = (limit_extra by x h.0, limit_extras by xs h.1)
 

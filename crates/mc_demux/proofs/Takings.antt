@@ -29,6 +29,7 @@ use Rattle.mc_demux.proofs.Roomy.{mark_roomier}
 use Rattle.mc_demux.proofs.Settled.{WritesExtras, extras_both, settled}
 use Rattle.mc_demux.proofs.Beginning.{begun}
 use Rattle.mc_demux.proofs.FilmBegins.{starts_keep}
+use Rattle.mc_demux.proofs.Recalled.{roomy_tied}
 use Rattle.mc_cache.proofs.Spare.{roomier_on}
 use Rattle.mc_packet.specs.declared.choice.Starts.{Starts}
 
@@ -46,6 +47,7 @@ roomy_stands film old mid m s =
     subst (λ (d : DemuxState). StandsFor film d) (sym m.changed) (record {
       fits = subst (λ (l : Limits). Fits film l old.set mid.cache.current mid.cache.others old.heads old.seeking old.waiting old.switch old.failure old.ended (reverse old.journal)) (sym m.cache_is.limits_is) f;
       still = s.still;
+      tied = roomy_tied old mid.cache m.cache_is s.tied;
       known = s.known;
     })
 

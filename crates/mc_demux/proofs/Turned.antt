@@ -40,6 +40,7 @@ use Rattle.mc_demux.proofs.Seeking.{cached_step, no_follow, sent_step}
 use Rattle.mc_demux.proofs.Sought.{turned_all, turned_limits, turned_placed}
 use Rattle.mc_demux.proofs.Trimmed.{trimmed}
 use Rattle.mc_demux.proofs.Trims.{trims_keep}
+use Rattle.mc_demux.proofs.Recalled.{goes_tied, own_tied}
 
 -- ---- a refusal
 
@@ -53,6 +54,7 @@ refused_keeps film old new by why r w s =
       fits = subst (λ (x : CacheState). Fits film x.limits old.set x.current x.others old.heads old.seeking old.waiting old.switch old.failure old.ended (reverse (old.journal ++ own ∷ []))) c
           (subst (λ (h : List DemuxRecord). Fits film old.cache.limits old.set old.cache.current old.cache.others old.heads old.seeking old.waiting old.switch old.failure old.ended h) push fits);
       still = subst (λ (h : List DemuxRecord). is_still film.packets h ≡ true) push refl;
+      tied = own_tied old own new.cache r.cache_is (record { switch = refl; number = refl; upto = refl; marks = refl }) s.tied;
       known = s.known;
     })
 
@@ -214,5 +216,6 @@ goes_keeps film old new by t dir how i some g s =
     subst (λ (d : DemuxState). StandsFor film d) (sym g.changed) (record {
       fits = subst (λ (l : Limits). Fits film l old.set new.cache.current new.cache.others heads seeking nothing old.switch None nothing (reverse new.journal)) (sym last) all.fits;
       still = all.still;
+      tied = goes_tied old new by t dir how g (no_follow film.packets (reverse old.journal) s.still) s.tied;
       known = s.known;
     })

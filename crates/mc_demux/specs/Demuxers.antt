@@ -24,7 +24,8 @@ pub record AreLimits (limits : Limits) : Type 0 where
   pub from_now : pos 0 ≤ℤ limits.readahead
   pub ahead : limits.readahead ≤ℤ pos (2 ^ 62)
 
--- what one part of a film counts for at most: 256 packets, whose payloads together have 67,108,864 octets
+-- what one part of a film counts for at most: 256 packets, whose payloads together have 67,108,864 octets. It is the
+-- greatest weight that a block of any film can have, and not that of this film's heaviest one
 abbrev pub heaviest : ℕ
 heaviest = 67108864 + 64 * 256
 

@@ -30,6 +30,7 @@ use Rattle.mc_demux.specs.declared.waiting.Failure.{Failure}
 use Rattle.mc_demux.specs.declared.waiting.Failure.TheVariants.{Failed, Starved}
 use Rattle.mc_journal.specs.Callers.{demuxer}
 use Rattle.mc_demux.specs.State.{DemuxState, head_of}
+use Rattle.mc_demux.specs.Tied.{IsTied}
 use Rattle.mc_tracks.specs.Selection.{knows}
 
 -- the record of a failure
@@ -60,10 +61,12 @@ pub record Fits (film : Film) (limits : Limits) (set : Choice) (current : Option
   pub failure_is : last_fault h ≡ option_map failure_record failure
   pub ended_are : ended ≡ kept_of set (was_ended h)
 
--- at rest nothing is left to be told, and the film has the demuxer's tracks
+-- at rest nothing is left to be told, what the next job rests on is what the journal says of it, and the film has the
+-- demuxer's tracks
 pub record StandsFor (film : Film) (d : DemuxState) : Type 0 where
   pub fits : Fits film d.cache.limits d.set d.cache.current d.cache.others d.heads d.seeking d.waiting d.switch d.failure d.ended (reverse d.journal)
   pub still : is_still film.packets (reverse d.journal) ≡ true
+  pub tied : IsTied d.switch d.number d.fed d.cache (reverse d.journal)
   pub known : (kind : Kind) (track : ℕ) → film.known kind track ≡ knows d.list kind track
 
 -- ---- what is handed in is of the film

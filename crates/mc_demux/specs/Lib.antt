@@ -4,7 +4,8 @@
 -- of it a call makes. A clause `grows` says that what was written bears the caller's number (`Grew`); a clause `demux`, that a
 -- demuxer is left (`IsDemux`); and a clause `film`: whatever film the demuxer stands for (`StandsFor`), it stands for it
 -- afterwards, where what it was handed is of that film (`AreStartsOf`, `IsPartOf`). What an outcome has to be is `BringsStarts`,
--- `BringsPart` and `BringsFailure`.
+-- `BringsPart` and `BringsFailure`. What a demuxer that stands for a film tells, holds and does next follows from its journal
+-- (`status_by`, `cached_by`, `job_by`).
 pub mod State
 pub mod Jobs
 pub mod Demuxers
@@ -25,4 +26,6 @@ pub mod Opening
 pub mod Viewing
 pub mod Shows
 pub mod Marks
+pub mod ByJournal
 pub mod Cached
+pub mod Tied

@@ -24,7 +24,9 @@
 //! what it leaves: by which steps the cache came about, which records were written, and all else.
 //! `grows`: what it wrote bears its caller's number. `film`: whatever film the demuxer stood for
 //! (`specs/Film`), it stands for it afterwards, where what was brought is of that film. What follows
-//! for readers are the laws [`standing_journals`], [`resting_readers`] and [`shown_readers`].
+//! for readers are the laws [`standing_journals`], [`resting_readers`] and [`shown_readers`]; that what
+//! is cached and which job comes next follow from the journal, [`cached_octets`] and [`next_jobs`].
+//! What is cached is handed out as packets by [`Demux::cached`].
 //!
 //! Whoever knows mpv's `demux.c` finds there, under these names:
 //!
@@ -70,5 +72,5 @@ pub use answer::{DemuxError, Peek, Reading, Selected, Taken};
 pub use demux::Demux;
 pub use job::Job;
 pub use law::{resting_readers, standing_journals};
-pub use shows::shown_readers;
+pub use shows::{cached_octets, next_jobs, shown_readers};
 pub use waiting::{Failure, Switch, Target};

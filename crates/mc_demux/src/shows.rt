@@ -1,20 +1,27 @@
 //! What a demuxer that stands for a film shows of itself, told by its journal: laws over every film
 //! and every state of a demuxer.
-ghost use Rattle.std.specs.Prelude.{◌≡◌, ℕ, None, ◌&&◌, ◌||◌, not, is_some, IfSome, reverse};
+ghost use Rattle.std.specs.Prelude.{◌≡◌, ℕ, ◌+◌, ◌≤◌, None, ◌&&◌, ◌||◌, not, is_some, IfSome, reverse};
 ghost use Rattle.std.specs.Option.{option_map};
 ghost use Rattle.mc_packet.specs.declared.packet.Packet.{Packet};
+ghost use Rattle.mc_packet.specs.declared.walk.Mark.{Mark};
+ghost use Rattle.mc_cache.specs.Cache.{mark_in};
 ghost use Rattle.mc_journal.specs.declared.record.DemuxRecord.{DemuxRecord};
 ghost use Rattle.mc_packet.specs.Choices.{has};
 ghost use Rattle.mc_journal.specs.Films.{Film, at, rank};
 ghost use Rattle.mc_journal.specs.Readings.{selected, failed};
+ghost use Rattle.mc_journal.specs.Ranges.{Range};
+ghost use Rattle.mc_journal.specs.Stands.{stand};
 ghost use Rattle.mc_journal.specs.Used.{can_end};
-ghost use Rattle.mc_journal.specs.Views.{is_idle, next};
-ghost use Rattle.mc_demux.specs.State.{DemuxState, next_in};
+ghost use Rattle.mc_journal.specs.Views.{back, forward, is_idle, next};
+ghost use Rattle.mc_demux.specs.State.{DemuxState, back_of, forward_of, next_in};
 ghost use Rattle.mc_demux.specs.Jobs.{job_of};
-ghost use Rattle.mc_demux.specs.Demuxers.{IsDemux};
+ghost use Rattle.mc_demux.specs.Demuxers.{IsDemux, heaviest};
 ghost use Rattle.mc_demux.specs.Readings.{peek_at, reading_of};
 ghost use Rattle.mc_demux.specs.Records.{Wrote};
 ghost use Rattle.mc_demux.specs.Film.{StandsFor};
+ghost use Rattle.mc_demux.specs.ByJournal.{AreOne, IsAwaited, job_by, mark_by};
+ghost use Rattle.mc_demux.specs.Marks.{AreAmong};
+ghost use Rattle.mc_demux.specs.Tied.{told_marks};
 ghost use Rattle.mc_demux.specs.Shows.{GivesNone, goal_of, is_finish, is_idle_job, pending_goal};
 
 /// A reader's next packet stands at the place of the next one that the journal leaves there
@@ -33,4 +40,40 @@ pub fn shown_readers()
     ensures tells { (film : Film) (d : DemuxState) (track : ℕ) → StandsFor film d → (has d.set track && is_finish (peek_at (reading_of track d))) ≡ (has (selected (reverse d.journal)) track && (not (is_some (next film.packets (reverse d.journal) track)) && (can_end film.packets (reverse d.journal) track || failed (reverse d.journal)))) }
     ensures quiet { (film : Film) (d e : DemuxState) (track : ℕ) (by : ℕ) (own : DemuxRecord) → StandsFor film d → StandsFor film e → Wrote by own d.journal e.journal → GivesNone own → next_in d.set d.heads track d.cache.current ≡ None → next_in e.set e.heads track e.cache.current ≡ None }
     ensures idle { (film : Film) (d : DemuxState) → IsDemux d → StandsFor film d → is_idle_job (job_of d) ≡ is_idle film.packets d.cache.limits (reverse d.journal) }
+{}
+
+/// The octets ahead of the readers and behind them are those that the journal tells (`forward`,
+/// `back`). Those behind are at most the back limit (`within`), and both together at most the two
+/// limits and the greatest weight that the packets of any block can have (`both`): a constant of
+/// all films, as a block's payload has at most 67,108,864 octets and it has at most 256 frames.
+pub fn cached_octets()
+    ensures forward { (film : Film) (d : DemuxState) → IsDemux d → StandsFor film d
+        → forward_of d ≡ forward film.packets (reverse d.journal) }
+    ensures back { (film : Film) (d : DemuxState) → IsDemux d → StandsFor film d
+        → back_of d ≡ back film.packets (reverse d.journal) }
+    ensures within { (film : Film) (d : DemuxState) → IsDemux d → StandsFor film d
+        → back film.packets (reverse d.journal) ≤ d.cache.limits.back }
+    ensures both { (film : Film) (d : DemuxState) → IsDemux d → StandsFor film d
+        → forward film.packets (reverse d.journal) + back film.packets (reverse d.journal)
+        ≤ d.cache.limits.forward + d.cache.limits.back + heaviest }
+{}
+
+/// The job that comes next is the one that the journal tells, its number too, given the mark from
+/// which the current range is read on (`job`). That mark stands at the place of the journal's current
+/// range (`place`) and is one that the journal tells (`told`), as is the mark of each range; where
+/// it tells one mark at each place, it is the newest one there (`mark`). A job whose outcome is
+/// awaited bears the journal's number, and asks for what is to be found or read there (`kept`).
+pub fn next_jobs()
+    ensures job { (film : Film) (d : DemuxState) → IsDemux d → StandsFor film d
+        → job_of d ≡ job_by film d.cache.limits (mark_in d.cache.current) (reverse d.journal) }
+    ensures place { (film : Film) (d : DemuxState) → StandsFor film d
+        → option_map (λ (m : Mark). m.pos) (mark_in d.cache.current)
+        ≡ option_map (λ (r : Range). r.mark) (stand film.packets (reverse d.journal)).current }
+    ensures told { (film : Film) (d : DemuxState) → StandsFor film d
+        → AreAmong (told_marks (reverse d.journal)) d.cache }
+    ensures mark { (film : Film) (d : DemuxState) → StandsFor film d
+        → AreOne (told_marks (reverse d.journal))
+        → mark_in d.cache.current ≡ mark_by film (reverse d.journal) }
+    ensures kept { (film : Film) (d : DemuxState) → IsDemux d → StandsFor film d
+        → IfSome d.kept (IsAwaited film (reverse d.journal)) }
 {}

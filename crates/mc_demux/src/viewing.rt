@@ -5,6 +5,7 @@ ghost use Rattle.mc_packet.specs.Choices.{has, lead_of, passes};
 ghost use Rattle.mc_journal.specs.Choices.{each_of};
 ghost use Rattle.mc_journal.specs.Films.{Film};
 ghost use Rattle.mc_journal.specs.Views.{plays, time_of, view};
+ghost use Rattle.mc_demux.specs.ByJournal.{status_by};
 ghost use Rattle.mc_demux.specs.Demuxers.{IsDemux};
 ghost use Rattle.mc_demux.specs.Film.{StandsFor};
 ghost use Rattle.mc_demux.specs.Keeping.{IsRoomy};
@@ -174,9 +175,12 @@ impl Demux {
 
     /// A short account: the number of records, the octets ahead of the readers and behind them, and
     /// the flags: whether the current range has the film's ending, and the number of ranges. It takes
-    /// no memory.
+    /// no memory. Of a film that the demuxer stands for it is what the journal tells; how many octets
+    /// both numbers can come to is said by `cached_octets`.
     pub fn status(&self) -> Status
         ensures value { result ≡ status_of self.now }
+        ensures film { (film : Film) → StandsFor film self.now
+            → result ≡ status_by film (reverse self.now.journal) }
         ensures demux { IsDemux self.now }
     {
         Status {

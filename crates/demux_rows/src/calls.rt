@@ -2,7 +2,7 @@ use crate::jobs::{CORE, bring_late, fail, find, push_done, row_error, work};
 use crate::table::Held;
 use mc_demux::{Demux, DemuxError, Job, Reading, Selected};
 use mc_journal::Sought;
-use mc_packet::{Dir, NoMemory, TrackNo, Why};
+use mc_packet::{Dir, NoMemory, Packet, TrackNo, Why};
 use rows::{Json, RowError, items_in, none, number_in, one, two};
 use rows_packets::{block_in, dir_in, push_choice, push_place, track_in};
 use std::alloc::Global;
@@ -193,4 +193,24 @@ pub fn call_show(
     none(arguments)?;
     let view = demux.show(CORE).map_err(row_error)?;
     Ok(write!(out, "{} ranges", view.ranges.len())?)
+}
+
+// The packets that are cached, each with its track and its place.
+pub fn call_cached(
+    demux: &Demux,
+    arguments: &[Json<'_>],
+    out: &mut String,
+) -> Result<(), RowError> {
+    none(arguments)?;
+    let packets = demux.cached()?;
+    write!(out, "{} packets", packets.len())?;
+    for packet in packets.as_slice() {
+        push_packet(packet, out)?;
+    }
+    Ok(())
+}
+
+fn push_packet(packet: &Packet, out: &mut String) -> Result<(), NoMemory> {
+    write!(out, " {}@", packet.track)?;
+    push_place(Some(packet.pos), out)
 }

@@ -1,6 +1,6 @@
 use crate::calls::{
-    call_back, call_fail, call_find, call_flags, call_forward, call_job, call_late, call_read,
-    call_seek, call_select, call_show, call_work,
+    call_back, call_cached, call_fail, call_find, call_flags, call_forward, call_job, call_late,
+    call_read, call_seek, call_select, call_show, call_work,
 };
 use crate::jobs::row_error;
 use crate::records::push_records;
@@ -45,9 +45,10 @@ enum Word {
     Back,
     Flags,
     Show,
+    Cached,
 }
 
-const WORDS: [(&str, Word); 13] = [
+const WORDS: [(&str, Word); 14] = [
     ("open", Word::Open),
     ("work", Word::Work),
     ("find", Word::Find),
@@ -61,6 +62,7 @@ const WORDS: [(&str, Word); 13] = [
     ("back", Word::Back),
     ("flags", Word::Flags),
     ("show", Word::Show),
+    ("cached", Word::Cached),
 ];
 
 impl Table for DemuxTable {
@@ -132,6 +134,7 @@ fn answer(
         Word::Back => call_back(&held.demux, arguments, out),
         Word::Flags => call_flags(&held.demux, arguments, out),
         Word::Show => call_show(&mut held.demux, arguments, out),
+        Word::Cached => call_cached(&held.demux, arguments, out),
         Word::Open => Err(RowError::BadRow),
     }
 }

@@ -14,6 +14,6 @@ returns-clause-played g c = λ octets told opens.
     let d = c.in_ok-driver in
     let run = c.run_script-halt in
     let here = subst (λ (x : Cursor). content (g.D.Shelf.files c.args.shelf.now) (g.D.Shelf.opened c.args.shelf.now) x.file.0 ≡ Some octets) (sym d.ensures.cursor) told in
-    subst (λ (hd : List DemuxRecord). Plays (plan_for octets c.args.cursor) c.args.limits c.args.script.now run.result hd) (sym (c.from_vec.ensures ∙ c.into_journal.ensures.value))
+    subst (λ (hd : List DemuxRecord). Plays (plan_for octets c.args.cursor) c.args.limits c.args.script.now run.result hd) (sym c.into_journal.ensures.value)
     (plays_from octets c.args.cursor c.args.limits c.args.script.now run.result d.driver run.new.machine opens (d.ensures.film octets all opens) d.ensures.demux d.ensures.cursor d.ensures.limits d.ensures.list
     d.ensures.journal run.ensures.fixed (λ rd s. run.ensures.stands octets rd here s) (λ rd s. rw c.as_slice.ensures at run.ensures.runs octets rd here s))

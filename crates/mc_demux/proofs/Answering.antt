@@ -1,7 +1,6 @@
 -- Each answer of a reader leaves a demuxer that stands for the film.
-use Rattle.std.proofs.Common.{◌≡◌, ℕ, ◌≤◌, ◌<◌, Bool, true, false, Option, Some, None, List, [], ◌∷◌, ◌++◌, refl, ap, sym, subst, ◌∙◌, inl, inr, append_assoc}
+use Rattle.std.proofs.Common.{◌≡◌, ℕ, ◌≤◌, Bool, true, false, Option, Some, None, List, [], ◌∷◌, ◌++◌, refl, sym, subst, ◌∙◌, append_assoc}
 use Rattle.std.specs.Prelude.{if◌then◌else◌, reverse, nat_le}
-use Rattle.std.proofs.lemmas.Bool.{cases_Bool}
 use Rattle.std.proofs.lemmas.Bool.Decides.{nat_tests}
 use Rattle.std.proofs.Common.{arith}
 use Rattle.mc_packet.specs.declared.packet.Packet.{Packet}
@@ -15,8 +14,7 @@ use Rattle.mc_journal.specs.Told.{gave_by}
 use Rattle.mc_packet.specs.Choices.{has}
 use Rattle.mc_journal.specs.Films.{Film}
 use Rattle.mc_journal.specs.Used.{is_still}
-use Rattle.mc_demux.specs.declared.answer.Reading.{Reading}
-use Rattle.mc_demux.specs.declared.answer.Reading.TheVariants.{Gave, NotYet, End, Overfull, Fault, Wanting, Unselected}
+use Rattle.mc_demux.specs.declared.answer.Reading.TheVariants.{Gave, NotYet, End, Overfull, Unselected}
 use Rattle.mc_demux.specs.declared.waiting.Failure.{Failure}
 use Rattle.mc_demux.specs.declared.waiting.Failure.TheVariants.{Failed, Starved}
 use Rattle.mc_cache.specs.Cache.{CacheState}

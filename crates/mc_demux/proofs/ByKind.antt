@@ -1,20 +1,19 @@
 -- The queue and the head of a selected track are those of its kind.
-use Rattle.std.proofs.Common.{◌≡◌, ℕ, ◌+◌, Bool, true, false, ◌&&◌, ◌||◌, Option, Some, None, List, [], ◌∷◌, refl, ap, sym, subst, ◌∙◌, inl, inr, ◌==◌}
-use Rattle.std.specs.Prelude.{if◌then◌else◌, is_some, IfSome}
+use Rattle.std.proofs.Common.{◌≡◌, ℕ, ◌+◌, true, false, ◌&&◌, Option, Some, None, refl, ap, sym, subst, ◌∙◌, inl, inr, ◌==◌}
+use Rattle.std.specs.Prelude.{is_some}
 use Rattle.std.proofs.lemmas.Bool.{cases_Bool, eqb-true, eq-eqb, and_parts}
-use Rattle.mc_packet.specs.declared.packet.Packet.{Packet}
 use Rattle.mc_packet.specs.declared.packet.Pos.{Pos}
 use Rattle.mc_packet.specs.declared.choice.Choice.{Choice}
 use Rattle.mc_packet.specs.declared.cache.Heads.{Heads}
 use Rattle.mc_packet.specs.declared.walk.Mark.{Mark}
-use Rattle.mc_packet.specs.Choices.{or_else, is_track, has, is_other, is_distinct}
+use Rattle.mc_packet.specs.Choices.{or_else, is_track, is_other, is_distinct}
 use Rattle.mc_journal.specs.Choices.{of_track, total_of}
 use Rattle.mc_queue.specs.Places.{weights}
 use Rattle.mc_queue.specs.Queue.{QueueState}
 use Rattle.mc_range.specs.declared.queues.Queues.{Queues}
-use Rattle.mc_range.specs.Range.{RangeState, IsRange, QueueIn, QueuesIn, is_of, own, queue_of}
+use Rattle.mc_range.specs.Range.{RangeState, IsRange, QueueIn, QueuesIn, own, queue_of}
 use Rattle.mc_range.specs.Cutting.{weight_ahead, weight_from}
-use Rattle.mc_demux.specs.State.{head_of, ahead, ahead_in}
+use Rattle.mc_demux.specs.State.{head_of, ahead}
 use Rattle.mc_demux.specs.Demuxers.{HaveHeads}
 
 -- ---- of different tracks

@@ -1,5 +1,5 @@
 -- A drop that the limit asks for leaves a demuxer that stands for the film.
-use Rattle.std.proofs.Common.{◌≡◌, ℕ, ◌+◌, ◌≤◌, ◌<◌, ◌-◌, Bool, true, false, ◌&&◌, ◌||◌, not, Option, Some, None, List, [], ◌∷◌, ◌++◌, refl, ap, sym, subst, ◌∙◌, inl, inr, arith, ◌==◌, length, ◌⊎◌}
+use Rattle.std.proofs.Common.{◌≡◌, ℕ, ◌+◌, ◌≤◌, Bool, true, false, ◌&&◌, not, Option, Some, None, List, [], ◌∷◌, refl, ap, sym, subst, ◌∙◌, inl, inr, arith, length, ◌⊎◌}
 use Rattle.std.specs.Prelude.{if◌then◌else◌, is_some, IfSome, IsSomeAnd, map, nat_lt, sum_by}
 use Rattle.std.specs.List.{filter, AllByRecursion}
 use Rattle.std.specs.Option.{option_map}
@@ -12,29 +12,28 @@ use Rattle.mc_packet.specs.declared.choice.Choice.{Choice}
 use Rattle.mc_packet.specs.declared.cache.Heads.{Heads}
 use Rattle.mc_packet.specs.declared.walk.Mark.{Mark}
 use Rattle.mc_packet.specs.Choices.{is_distinct, passes}
-use Rattle.mc_journal.specs.Choices.{each_of}
 use Rattle.mc_journal.specs.Films.{rank, first}
 use Rattle.mc_journal.specs.Ranges.{Range, held}
-use Rattle.mc_journal.specs.Stands.{Stand, cut_in, cut_last, cut_range, holds_any}
+use Rattle.mc_journal.specs.Stands.{cut_last, cut_range, holds_any}
 use Rattle.mc_journal.specs.Views.{range_weight}
 use Rattle.mc_journal.specs.Allowed.{MayCut}
 use Rattle.mc_journal.specs.Used as used
 use Rattle.mc_queue.specs.Queue.{QueueState}
 use Rattle.mc_range.specs.declared.cutting.Cut.{Cut}
-use Rattle.mc_range.specs.Range.{RangeState, IsRange, QueueIn, QueuesIn, as_range, count, queue_of, weight_of_all}
+use Rattle.mc_range.specs.Range.{RangeState, IsRange, QueueIn, QueuesIn, as_range, count, queue_of}
 use Rattle.mc_range.specs.Serving.{HoldsFilm, packets_in}
 use Rattle.mc_range.specs.Cutting.{IsCut}
 use Rattle.mc_range.specs.Filmed.{AreBounds}
 use Rattle.mc_range.proofs.FilmCut.{film_cut}
 use Rattle.mc_range.proofs.Weighed.{film_weight}
-use Rattle.mc_cache.specs.Cache.{IsOther, holds, in_front, weight_in, weight_of}
-use Rattle.mc_cache.specs.Pruning.{CutsLast, CutsRange}
+use Rattle.mc_cache.specs.Cache.{IsOther, holds, weight_in, weight_of}
+use Rattle.mc_cache.specs.Pruning.{CutsLast}
 use Rattle.mc_demux.specs.State.{head_of}
 use Rattle.mc_demux.specs.Film.{PlacesAre}
 use Rattle.mc_demux.proofs.ByKind.{KindIs, KindsAre, kinds_are}
-use Rattle.mc_demux.proofs.Pruned.{LessAll, range_less}
+use Rattle.mc_demux.proofs.Pruned.{range_less}
 use Rattle.mc_demux.proofs.Trimmed.{queue_some}
-use Rattle.mc_demux.proofs.FilmDrops.{cut_well, cuts_span, cut_below, cut_upto}
+use Rattle.mc_demux.proofs.FilmDrops.{cut_well, cuts_span, cut_upto}
 
 -- ---- a range holds a packet
 

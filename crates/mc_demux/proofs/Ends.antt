@@ -1,26 +1,25 @@
 -- A track whose reader was told the end has no packet at its head, until the next seek or selection.
-use Rattle.std.proofs.Common.{◌≡◌, ℕ, ◌≤◌, ◌<◌, ◌+◌, Bool, true, false, ◌&&◌, ◌||◌, not, Option, Some, None, List, [], ◌∷◌, refl, ap, sym, subst, ◌∙◌, inl, inr, ◌==◌}
-use Rattle.std.specs.Prelude.{if◌then◌else◌, is_some, IfSome, IsSomeAnd, nat_le, nat_lt}
+use Rattle.std.proofs.Common.{◌≡◌, ℕ, ◌<◌, Bool, true, false, ◌&&◌, ◌||◌, Option, Some, None, List, [], ◌∷◌, refl, ap, sym, subst, ◌∙◌, inl, inr, ◌==◌}
+use Rattle.std.specs.Prelude.{is_some, IfSome, IsSomeAnd, nat_le, nat_lt}
 use Rattle.std.specs.List.{filter, AllByRecursion}
 use Rattle.std.specs.Option.{option_map_or}
 use Rattle.std.proofs.lemmas.Bool.{cases_Bool, eqb-true}
 use Rattle.mc_packet.specs.declared.choice.Choice.{Choice}
 use Rattle.mc_packet.specs.declared.choice.Starts.{Starts}
 use Rattle.mc_packet.specs.declared.walk.Ending.{Ending}
-use Rattle.mc_journal.specs.declared.record.Sought.TheVariants.{Cached, Sent}
 use Rattle.mc_journal.specs.declared.record.DemuxRecord.{DemuxRecord}
 use Rattle.mc_journal.specs.declared.record.DemuxRecord.TheVariants.{Opened, Sought, Switched, Found, Fed, Failed, Starved, Dropped, Joined, Gave, Ended, Overfull, Faulted, Wanting, Shown, Refused}
 use Rattle.mc_packet.specs.declared.packet.Packet.{Packet}
 use Rattle.mc_packet.specs.Choices.{is_track, has}
 use Rattle.mc_journal.specs.Choices.{meets}
 use Rattle.mc_journal.specs.Told.{told}
-use Rattle.mc_journal.specs.Films.{Film, IsFilm, at, first, first_lane, rank, track_of}
-use Rattle.mc_journal.specs.Ranges.{Range, Span, in_span, within}
+use Rattle.mc_journal.specs.Films.{Film, IsFilm, at, first, first_lane, track_of}
+use Rattle.mc_journal.specs.Ranges.{Range, Span, in_span}
 use Rattle.mc_journal.specs.Readings.{selected, pending, waits}
 use Rattle.mc_journal.specs.Stands.{stand, start_given}
 use Rattle.mc_journal.specs.Views.{head, next, next_in, from_place, was_ended}
 use Rattle.mc_journal.specs.Allowed.{IsAllowed, StartsOf, is_sought}
-use Rattle.mc_journal.proofs.Facts.{IsSound, IsRead, Holds}
+use Rattle.mc_journal.proofs.Facts.{IsSound, IsRead}
 use Rattle.mc_journal.proofs.Giving.{end_one}
 use Rattle.mc_journal.proofs.Laws.{holds}
 use Rattle.mc_journal.proofs.Rests.{rest, rest-track}

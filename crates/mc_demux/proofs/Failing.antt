@@ -1,5 +1,5 @@
 -- A job that came to nothing leaves a demuxer that stands for the film.
-use Rattle.std.proofs.Common.{◌≡◌, ℕ, Bool, true, Option, Some, None, List, [], ◌∷◌, ◌++◌, refl, ap, sym, subst, ◌∙◌}
+use Rattle.std.proofs.Common.{◌≡◌, true, Option, Some, None, List, [], ◌∷◌, ◌++◌, refl, sym, subst}
 use Rattle.std.specs.Prelude.{reverse, is_some, IfSome}
 use Rattle.std.proofs.lemmas.List.{reverse-append}
 use Rattle.mc_journal.specs.declared.record.DemuxRecord.{DemuxRecord}
@@ -9,7 +9,7 @@ use Rattle.mc_demux.specs.declared.job.Job.{Job}
 use Rattle.mc_demux.specs.declared.waiting.Failure.{Failure}
 use Rattle.mc_demux.specs.declared.waiting.Failure.TheVariants.{Failed, Starved}
 use Rattle.mc_demux.specs.State.{DemuxState}
-use Rattle.mc_demux.specs.Demuxers.{IsDemux, KeepsJob}
+use Rattle.mc_demux.specs.Demuxers.{KeepsJob}
 use Rattle.mc_demux.specs.Outcomes.{failed_on}
 use Rattle.mc_demux.specs.Film.{Fits, StandsFor, failure_record}
 use Rattle.mc_demux.proofs.Quiet.{failed_step, starved_step}

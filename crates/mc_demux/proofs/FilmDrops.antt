@@ -1,11 +1,10 @@
 -- A drop that the limit asks for, by the queues, is the one that the definitions over a film's list ask for.
-use Rattle.std.proofs.Common.{◌≡◌, ℕ, ◌+◌, ◌≤◌, ◌<◌, ◌-◌, Bool, true, false, ◌&&◌, ◌||◌, not, Option, Some, None, List, [], ◌∷◌, ◌++◌, refl, ap, sym, subst, ◌∙◌, inl, inr, arith, ◌==◌, length, ◌⊎◌}
-use Rattle.std.specs.Prelude.{if◌then◌else◌, is_some, IfSome, IsSomeAnd, map, min, nat_le, nat_lt, sum_by}
+use Rattle.std.proofs.Common.{◌≡◌, ℕ, ◌≤◌, ◌<◌, true, Option, Some, None, List, [], ◌∷◌, refl, ap, sym, subst, ◌∙◌, inl, inr, arith}
+use Rattle.std.specs.Prelude.{IfSome, IsSomeAnd, nat_le, nat_lt}
 use Rattle.std.specs.List.{filter, AllByRecursion}
 use Rattle.std.specs.Option.{option_map, option_map_or}
-use Rattle.std.proofs.lemmas.Bool.{cases_Bool, eqb-true, eq-eqb}
+use Rattle.std.proofs.lemmas.Bool.{cases_Bool}
 use Rattle.std.proofs.lemmas.Bool.Decides.{nat_tests}
-use Rattle.std.proofs.lemmas.List.Sums.{sum_by-cons}
 use Rattle.mc_packet.specs.declared.packet.Packet.{Packet}
 use Rattle.mc_packet.specs.declared.packet.Pos.{Pos}
 use Rattle.mc_packet.specs.declared.choice.Kind.{Kind}
@@ -13,31 +12,22 @@ use Rattle.mc_packet.specs.declared.choice.Kind.TheVariants.{Video, Audio, Sub}
 use Rattle.mc_packet.specs.declared.choice.Choice.{Choice}
 use Rattle.mc_packet.specs.declared.cache.Heads.{Heads}
 use Rattle.mc_packet.specs.declared.walk.Mark.{Mark}
-use Rattle.mc_packet.specs.Choices.{has, is_distinct, passes}
-use Rattle.mc_journal.specs.Choices.{each_of}
+use Rattle.mc_packet.specs.Choices.{is_distinct}
 use Rattle.mc_journal.specs.Films.{at, rank, first, track_of}
 use Rattle.mc_journal.specs.Ranges.{Range, Span, held, in_span, within}
-use Rattle.mc_journal.specs.Stands.{cut_range, cut_span, holds_any}
 use Rattle.mc_journal.specs.Allowed.{Cuts as CutsSpan}
 use Rattle.mc_journal.specs.Used as used
-use Rattle.mc_queue.specs.Places.{place, weights}
-use Rattle.mc_journal.specs.Views.{from_place}
-use Rattle.mc_queue.specs.Queue.{QueueState, IsQueue, next_cut}
+use Rattle.mc_queue.specs.Places.{place}
+use Rattle.mc_queue.specs.Queue.{QueueState, IsQueue}
 use Rattle.mc_queue.proofs.Rising.{rise_from, less_weight_from}
 use Rattle.mc_range.specs.declared.queues.Queues.{Queues}
 use Rattle.mc_range.specs.declared.cutting.Cut.{Cut}
-use Rattle.mc_range.specs.Range.{RangeState, IsRange, QueueIn, QueuesIn, as_range, count, own, queue_of, span_of}
+use Rattle.mc_range.specs.Range.{RangeState, IsRange, QueuesIn, as_range, queue_of, span_of}
 use Rattle.mc_range.specs.Serving.{HoldsFilm, packets_in}
-use Rattle.mc_range.specs.Tracks.{count_of_all, queue_under, with_queue}
+use Rattle.mc_range.specs.Tracks.{queue_under, with_queue}
 use Rattle.mc_range.specs.Growing.{IsSound, AllSound}
 use Rattle.mc_range.specs.Cutting.{Cuts, CutsOne, IsAheadIn, IsCut, bound_under, cut_at, cut_of, victim}
-use Rattle.mc_range.specs.Filmed.{AreBounds}
 use Rattle.mc_range.proofs.Dropping as dropping
-use Rattle.mc_range.proofs.FilmCut.{film_cut}
-use Rattle.mc_cache.specs.Cache.{holds}
-use Rattle.mc_demux.specs.State.{head_of}
-use Rattle.mc_demux.specs.Film.{PlacesAre}
-use Rattle.mc_demux.proofs.ByKind.{KindIs, KindsAre, kinds_are}
 
 -- ---- a range that is cut is one
 

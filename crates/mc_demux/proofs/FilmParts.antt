@@ -14,17 +14,16 @@ use Rattle.mc_journal.specs.declared.record.DemuxRecord.{DemuxRecord}
 use Rattle.mc_journal.specs.declared.record.DemuxRecord.TheVariants.{Fed}
 use Rattle.mc_packet.specs.Choices.{or_else}
 use Rattle.mc_journal.specs.Choices.{kept_of, kept_track}
-use Rattle.mc_journal.specs.Films.{Film, at, rank, first, first_lane, track_of}
+use Rattle.mc_journal.specs.Films.{Film, rank, first, first_lane, track_of}
 use Rattle.mc_journal.specs.Ranges.{Range, within}
 use Rattle.mc_journal.specs.Readings.{failed}
 use Rattle.mc_journal.specs.Stands.{Stand, stand, fed_range}
 use Rattle.mc_journal.specs.Views.{head, from_place}
 use Rattle.mc_journal.specs.Used.{is_still, are_told, due, joins_now, gains, gains_in, any_track, taker as takes_in}
 use Rattle.mc_journal.proofs.Splitting.{within-cut}
-use Rattle.mc_queue.specs.Places.{is_from}
 use Rattle.mc_queue.specs.Queue.{QueueState}
 use Rattle.mc_range.specs.Range.{RangeState, IsRange, QueueIn, as_range, queue_of, span_of}
-use Rattle.mc_range.specs.Growing.{news, of_track, taker, takes, track_with}
+use Rattle.mc_range.specs.Growing.{news, taker, takes, track_with}
 use Rattle.mc_range.specs.Serving.{HoldsFilm}
 use Rattle.mc_range.specs.Filmed.{IsPart}
 use Rattle.mc_range.proofs.Telling.{kept_swap, none_within}

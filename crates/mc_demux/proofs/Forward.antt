@@ -1,7 +1,7 @@
 -- The octets ahead of the readers, by the queues and by the journal.
-use Rattle.std.proofs.Common.{◌≡◌, ℕ, ◌+◌, ◌≤◌, Bool, true, false, Option, Some, None, List, [], ◌∷◌, refl, ap, sym, subst, ◌∙◌, inl, inr}
-use Rattle.std.specs.Prelude.{map, nat_le, if◌then◌else◌, is_some, IfSome, IsSomeAnd, sum_by, length}
-use Rattle.std.specs.List.{filter, find, fold}
+use Rattle.std.proofs.Common.{◌≡◌, ℕ, ◌+◌, Option, Some, None, List, [], ◌∷◌, refl, ap, sym, subst, ◌∙◌, inl, inr}
+use Rattle.std.specs.Prelude.{nat_le, IfSome, IsSomeAnd, sum_by}
+use Rattle.std.specs.List.{fold}
 use Rattle.std.specs.Option.{option_map}
 use Rattle.std.proofs.lemmas.Bool.{cases_Bool}
 use Rattle.mc_packet.specs.declared.packet.Packet.{Packet}
@@ -11,12 +11,11 @@ use Rattle.mc_packet.specs.declared.cache.Heads.{Heads}
 use Rattle.mc_packet.specs.declared.cache.Limits.{Limits}
 use Rattle.mc_journal.specs.declared.record.DemuxRecord.{DemuxRecord}
 use Rattle.mc_journal.specs.Choices.{of_track, total_of}
-use Rattle.mc_journal.specs.Films.{Film, at, rank}
+use Rattle.mc_journal.specs.Films.{Film, rank}
 use Rattle.mc_journal.specs.Ranges.{Range, held}
-use Rattle.mc_journal.specs.Readings.{selected}
 use Rattle.mc_journal.specs.Stands.{stand}
 use Rattle.mc_journal.specs.Views.{from_place as from_told, head, forward, forward_in, weight, from_place}
-use Rattle.mc_queue.specs.Places.{is_from, weight_of, weights}
+use Rattle.mc_queue.specs.Places.{weight_of, weights}
 use Rattle.mc_queue.specs.Queue.{QueueState}
 use Rattle.mc_range.specs.Range.{RangeState, IsRange, as_range, queue_of}
 use Rattle.mc_range.specs.Serving.{HoldsFilm, packets_in}

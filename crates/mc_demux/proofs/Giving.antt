@@ -1,9 +1,8 @@
 -- A packet that is given leaves a demuxer that stands for the film.
-use Rattle.std.proofs.Common.{◌≡◌, ℕ, ◌≤◌, ◌<◌, ◌+◌, ◌*◌, Bool, true, false, ◌&&◌, ◌||◌, Option, Some, None, List, [], ◌∷◌, ◌++◌, refl, ap, sym, subst, ◌∙◌, inl, inr, ◌==◌, arith}
-use Rattle.std.specs.Prelude.{map, if◌then◌else◌, is_some, IfSome, IsSomeAnd, nat_le, nat_lt}
+use Rattle.std.proofs.Common.{◌≡◌, ℕ, ◌+◌, Bool, true, false, ◌&&◌, Option, Some, None, List, [], ◌∷◌, refl, sym, subst, ◌∙◌, inl, inr, ◌==◌, arith}
+use Rattle.std.specs.Prelude.{if◌then◌else◌, IfSome, IsSomeAnd, nat_le, nat_lt}
 use Rattle.std.specs.List.{filter, AllByRecursion}
-use Rattle.std.specs.Option.{option_map}
-use Rattle.std.proofs.lemmas.Bool.{cases_Bool, eqb-true, eq-eqb}
+use Rattle.std.proofs.lemmas.Bool.{cases_Bool, eqb-true}
 use Rattle.mc_packet.specs.declared.packet.Packet.{Packet}
 use Rattle.mc_packet.specs.declared.packet.Pos.{Pos}
 use Rattle.mc_packet.specs.declared.choice.Choice.{Choice}
@@ -13,13 +12,13 @@ use Rattle.mc_journal.specs.declared.record.DemuxRecord.{DemuxRecord}
 use Rattle.mc_journal.specs.Told.{gave_by, told}
 use Rattle.mc_packet.specs.Choices.{is_track, has}
 use Rattle.mc_journal.specs.Films.{Film, at, rank, first, track_of}
-use Rattle.mc_journal.specs.Ranges.{Range, Span, within, in_span}
+use Rattle.mc_journal.specs.Ranges.{Range, Span, in_span}
 use Rattle.mc_journal.specs.Readings.{selected}
 use Rattle.mc_journal.specs.Stands.{stand}
 use Rattle.mc_journal.specs.Views.{head, next, next_in as next_held, from_place}
 use Rattle.mc_journal.specs.Used.{is_still}
 use Rattle.mc_queue.specs.Queue.{QueueState}
-use Rattle.mc_range.specs.Range.{RangeState, as_range, queue_of}
+use Rattle.mc_range.specs.Range.{RangeState, queue_of}
 use Rattle.mc_demux.specs.declared.waiting.Target.{Target}
 use Rattle.mc_demux.specs.declared.waiting.Switch.{Switch}
 use Rattle.mc_demux.specs.declared.waiting.Failure.{Failure}

@@ -13,7 +13,7 @@ use Rattle.mc_demux.specs.declared.answer.Reading.TheVariants.{Gave, NotYet, End
 use Rattle.mc_demux.specs.declared.waiting.Target.{Target}
 use Rattle.mc_demux.specs.State.{DemuxState}
 use Rattle.mc_demux.specs.Keeping.{IsAsBefore, IsRoomy}
-use Rattle.mc_demux.specs.Readings.{Gives, record_of}
+use Rattle.mc_demux.specs.Readings.{record_of}
 use Rattle.mc_demux.specs.Records.{IsExtra, IsLimitDrop, Wrote, WroteAll}
 use Rattle.mc_demux.specs.Seeking.{IsRefused}
 use Rattle.mc_demux.specs.Selecting.{Switches, own_records, sought_again}

@@ -1,6 +1,6 @@
 -- A demuxer has nothing to do exactly where its journal says so.
 use Rattle.std.proofs.Common.{◌≡◌, ℕ, Bool, true, false, ◌&&◌, ◌||◌, not, Option, Some, None, List, refl, ap, sym, subst, ◌∙◌, inl, inr}
-use Rattle.std.specs.Prelude.{ℤ, if◌then◌else◌, map, nat_le, reverse, is_some, IfSome}
+use Rattle.std.specs.Prelude.{ℤ, if◌then◌else◌, nat_le, reverse, is_some, IfSome}
 use Rattle.std.specs.Option.{option_map}
 use Rattle.std.proofs.lemmas.Bool.{cases_Bool}
 use Rattle.mc_packet.specs.declared.choice.Choice.{Choice}

@@ -1,6 +1,6 @@
 -- The packets of the current range, merged from its queues, are the film's in file order.
-use Rattle.std.proofs.Common.{◌≡◌, ℕ, ◌+◌, ◌<◌, Bool, true, false, ◌&&◌, ◌||◌, Option, Some, None, List, [], ◌∷◌, ◌++◌, refl, ap, sym, ◌∙◌, inl, inr, ◌==◌, arith, suc}
-use Rattle.std.specs.Prelude.{map, nat_lt, IfSome, reverse, take, drop}
+use Rattle.std.proofs.Common.{◌≡◌, ℕ, ◌+◌, ◌<◌, Bool, true, false, ◌&&◌, ◌||◌, Option, Some, None, List, [], ◌∷◌, refl, ap, sym, ◌∙◌, inl, inr, ◌==◌, arith, suc}
+use Rattle.std.specs.Prelude.{nat_lt, IfSome, reverse}
 use Rattle.std.specs.List.{filter, prefix_len, AllByRecursion}
 use Rattle.std.specs.Option.{option_map}
 use Rattle.std.proofs.lemmas.Bool.{and_parts, cases_Bool, eq-eqb, eqb-true}

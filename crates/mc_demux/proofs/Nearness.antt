@@ -1,6 +1,6 @@
 -- What is read ahead of a reader, packet by packet.
 use Rattle.std.proofs.Common.{◌≡◌, ℕ, ◌+◌, ◌≤◌, ◌<◌, Bool, true, false, ◌&&◌, Option, Some, None, List, [], ◌∷◌, refl, ap, sym, subst, ◌∙◌, inl, inr, arith, length}
-use Rattle.std.specs.Prelude.{map, nat_le, is_some, IfSome, ℤ, ◌-ℤ◌, int_lt, int_le, if◌then◌else◌}
+use Rattle.std.specs.Prelude.{nat_le, is_some, IfSome, ℤ, ◌-ℤ◌, int_lt, int_le, if◌then◌else◌}
 use Rattle.std.specs.List.{find, list_all}
 use Rattle.std.proofs.lemmas.Bool.{cases_Bool}
 use Rattle.std.proofs.lemmas.Bool.Decides.{nat_tests}

@@ -1,7 +1,7 @@
 -- What stands at a track's head by the queues is what stands there by the journal.
-use Rattle.std.proofs.Common.{◌≡◌, ℕ, Bool, true, false, ◌&&◌, Option, Some, None, List, [], ◌∷◌, refl, ap, sym, subst, ◌∙◌, inl, inr}
-use Rattle.std.specs.Prelude.{map, nat_le, if◌then◌else◌, is_some, IfSome, IsSomeAnd}
-use Rattle.std.specs.List.{filter, find}
+use Rattle.std.proofs.Common.{◌≡◌, ℕ, ◌&&◌, Option, Some, None, List, [], ◌∷◌, refl, ap, subst, ◌∙◌, inl, inr}
+use Rattle.std.specs.Prelude.{nat_le, if◌then◌else◌, is_some, IfSome, IsSomeAnd}
+use Rattle.std.specs.List.{find}
 use Rattle.std.specs.Option.{option_map}
 use Rattle.std.proofs.lemmas.Bool.{cases_Bool}
 use Rattle.mc_packet.specs.declared.packet.Packet.{Packet}
@@ -11,12 +11,11 @@ use Rattle.mc_packet.specs.declared.cache.Heads.{Heads}
 use Rattle.mc_packet.specs.declared.cache.Limits.{Limits}
 use Rattle.mc_packet.specs.declared.walk.Ending.{Ending}
 use Rattle.mc_journal.specs.declared.record.DemuxRecord.{DemuxRecord}
-use Rattle.mc_journal.specs.Films.{Film, at, rank, first}
-use Rattle.mc_journal.specs.Ranges.{Range, held}
-use Rattle.mc_journal.specs.Stands.{stand}
+use Rattle.mc_journal.specs.Films.{Film, rank, first}
+use Rattle.mc_journal.specs.Ranges.{Range}
 use Rattle.mc_journal.specs.Views.{from_place, head, next, next_in as next_held}
 use Rattle.mc_journal.specs.Used.{can_end, ends_in}
-use Rattle.mc_queue.specs.Places.{is_from, place}
+use Rattle.mc_queue.specs.Places.{is_from}
 use Rattle.mc_queue.specs.Queue.{QueueState}
 use Rattle.mc_range.specs.Range.{RangeState, as_range, queue_of, span_of}
 use Rattle.mc_range.specs.Serving.{HoldsFilm, packets_in}

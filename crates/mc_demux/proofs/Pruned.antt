@@ -1,7 +1,7 @@
 -- A drop that the limit asks for takes packets, of the current range none at a head or behind it, and leaves each queue there.
-use Rattle.std.proofs.Common.{◌≡◌, ℕ, ◌+◌, ◌≤◌, ◌<◌, Bool, true, false, Option, Some, None, List, [], ◌∷◌, refl, ap, sym, subst, ◌∙◌, inl, inr, arith, length, ◌==◌}
-use Rattle.std.specs.Prelude.{if◌then◌else◌, is_some, IfSome, IsSomeAnd, nat_le, nat_lt, sum_by}
-use Rattle.std.specs.List.{filter, AllByRecursion}
+use Rattle.std.proofs.Common.{◌≡◌, ℕ, ◌≤◌, ◌<◌, false, Option, Some, None, List, [], ◌∷◌, refl, ap, sym, subst, ◌∙◌, inl, inr, arith, length}
+use Rattle.std.specs.Prelude.{if◌then◌else◌, IfSome, IsSomeAnd, nat_le, nat_lt}
+use Rattle.std.specs.List.{AllByRecursion}
 use Rattle.std.proofs.lemmas.Bool.{cases_Bool}
 use Rattle.std.proofs.lemmas.Bool.Decides.{nat_tests}
 use Rattle.std.proofs.lemmas.List.Sums.{sum_by-cons}
@@ -12,20 +12,19 @@ use Rattle.mc_packet.specs.declared.choice.Kind.TheVariants.{Video, Audio, Sub}
 use Rattle.mc_packet.specs.declared.choice.Choice.{Choice}
 use Rattle.mc_packet.specs.declared.cache.Heads.{Heads}
 use Rattle.mc_journal.specs.Films.{rank}
-use Rattle.mc_packet.specs.Choices.{or_else}
 use Rattle.mc_journal.specs.declared.record.Removal.{Removal}
 use Rattle.mc_queue.specs.Places.{place, weight_of as packet_weight, weights}
 use Rattle.mc_journal.specs.Views.{from_place}
-use Rattle.mc_queue.specs.Queue.{QueueState, IsQueue, DropsTo, first_of, next_cut}
+use Rattle.mc_queue.specs.Queue.{QueueState, IsQueue, first_of, next_cut}
 use Rattle.mc_queue.specs.Union.{earlier}
 use Rattle.mc_queue.proofs.Rests.{from_again}
 use Rattle.mc_queue.proofs.Cutting.{cut_behind}
 use Rattle.mc_range.specs.declared.queues.Queues.{Queues}
 use Rattle.mc_range.specs.declared.cutting.Cut.{Cut}
-use Rattle.mc_range.specs.Range.{RangeState, IsRange, count, is_of, own, queue_of, weight_in, weight_of_all}
+use Rattle.mc_range.specs.Range.{RangeState, IsRange, count, weight_in, weight_of_all}
 use Rattle.mc_range.specs.Tracks.{count_of_all, queue_under, with_queue}
 use Rattle.mc_range.specs.Growing.{IsSound, AllSound}
-use Rattle.mc_range.specs.Cutting.{Cuts, CutsOne, IsCut, bound_under, cut_at, cuttable, first_cuttable, victim, weight_ahead, weight_from}
+use Rattle.mc_range.specs.Cutting.{Cuts, CutsOne, IsCut, bound_under, cut_at, cuttable, first_cuttable, victim}
 use Rattle.mc_range.proofs.Dropping.{is_victim, all_sound}
 use Rattle.mc_cache.specs.Cache.{CacheState, IsCache, IsOther, count_in, count_of, holds, in_front, ranges_of, weight_of, weight_in as weight_in_range}
 use Rattle.mc_cache.specs.Pruning.{CutsFront, CutsLast, CutsRange, Drops}

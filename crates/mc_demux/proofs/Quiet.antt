@@ -1,11 +1,10 @@
 -- Records that tell something and change no range: each leaves a demuxer that stands for the film.
-use Rattle.std.proofs.Common.{◌≡◌, ℕ, ◌≤◌, ◌+◌, Bool, true, false, ◌&&◌, ◌||◌, Option, Some, None, List, [], ◌∷◌, ◌++◌, refl, ap, sym, subst, ◌∙◌, inl, inr, ◌==◌}
-use Rattle.std.specs.Prelude.{map, if◌then◌else◌, is_some, IfSome, IsSomeAnd}
+use Rattle.std.proofs.Common.{◌≡◌, ℕ, ◌≤◌, Bool, true, false, ◌||◌, Option, Some, None, List, [], ◌∷◌, refl, ap, sym, subst, ◌∙◌, inl, inr, ◌==◌}
+use Rattle.std.specs.Prelude.{if◌then◌else◌, is_some, IsSomeAnd}
 use Rattle.std.specs.List.{filter}
 use Rattle.std.specs.Option.{option_map}
 use Rattle.std.proofs.lemmas.Bool.{cases_Bool, eqb-true, eq-eqb}
 use Rattle.mc_packet.specs.declared.packet.Packet.{Packet}
-use Rattle.mc_packet.specs.declared.packet.Pos.{Pos}
 use Rattle.mc_packet.specs.declared.choice.Choice.{Choice}
 use Rattle.mc_packet.specs.declared.choice.Why.{Why}
 use Rattle.mc_packet.specs.declared.cache.CacheView.{CacheView}
@@ -19,10 +18,9 @@ use Rattle.mc_journal.specs.Choices.{kept_of, kept_track}
 use Rattle.mc_journal.specs.Films.{Film}
 use Rattle.mc_journal.specs.Ranges.{Range}
 use Rattle.mc_journal.specs.Readings.{selected, last_fault, failed}
-use Rattle.mc_journal.specs.Stands.{Stand, stand, after, holds_any}
+use Rattle.mc_journal.specs.Stands.{stand, after, holds_any}
 use Rattle.mc_journal.specs.Views.{forward, next, view, was_ended}
-use Rattle.mc_journal.specs.Allowed.{MayEnd}
-use Rattle.mc_journal.specs.Used.{IsUsed, is_still, can_end, TellsWhy, IsFailure, IsWant}
+use Rattle.mc_journal.specs.Used.{is_still, can_end, TellsWhy, IsFailure, IsWant}
 use Rattle.mc_range.specs.Range.{RangeState, as_range, queue_of, span_of}
 use Rattle.mc_demux.specs.declared.waiting.Target.{Target}
 use Rattle.mc_demux.specs.declared.waiting.Switch.{Switch}

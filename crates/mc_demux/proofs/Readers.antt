@@ -1,7 +1,7 @@
 -- An answer with a record leaves a demuxer, and one that stands for the film.
-use Rattle.std.proofs.Common.{◌≡◌, ℕ, ◌+◌, ◌*◌, ◌≤◌, ◌<◌, Bool, true, false, ◌||◌, Option, Some, None, List, [], ◌∷◌, ◌++◌, refl, ap, sym, subst, ◌∙◌, inl, inr, arith, ◌==◌, length, length-append, append_assoc}
-use Rattle.std.specs.Prelude.{if◌then◌else◌, is_some, IfSome, IsSomeAnd, nat_le, reverse}
-use Rattle.std.specs.List.{find, AllByRecursion}
+use Rattle.std.proofs.Common.{◌≡◌, ℕ, ◌+◌, ◌≤◌, ◌<◌, true, Option, Some, None, List, [], ◌∷◌, ◌++◌, ap, sym, subst, ◌∙◌, inl, inr, arith, ◌==◌, length, length-append}
+use Rattle.std.specs.Prelude.{is_some, IfSome, IsSomeAnd}
+use Rattle.std.specs.List.{find}
 use Rattle.std.proofs.lemmas.Bool.{cases_Bool, eqb-true}
 use Rattle.std.proofs.lemmas.Bool.Decides.{nat_tests}
 use Rattle.mc_packet.specs.declared.packet.Packet.{Packet}
@@ -13,7 +13,7 @@ use Rattle.mc_packet.specs.declared.walk.Ending.{Ending}
 use Rattle.mc_packet.specs.declared.walk.Mark.{Mark}
 use Rattle.mc_journal.specs.declared.record.DemuxRecord.{DemuxRecord}
 use Rattle.mc_packet.specs.Choices.{is_track, has}
-use Rattle.mc_journal.specs.Films.{Film, rank}
+use Rattle.mc_journal.specs.Films.{rank}
 use Rattle.mc_queue.specs.Places.{is_from, weights}
 use Rattle.mc_journal.specs.Views.{from_place}
 use Rattle.mc_queue.specs.Queue.{QueueState}
@@ -32,7 +32,7 @@ use Rattle.mc_demux.specs.Readings.{past, with_head}
 use Rattle.mc_demux.specs.Trimming.{Trims}
 use Rattle.mc_demux.proofs.Giving.{rank-past, moved_same, moved_other}
 use Rattle.mc_demux.proofs.Awaited.{less_await}
-use Rattle.mc_demux.proofs.Trimmed.{IsTrimmed, trimmed}
+use Rattle.mc_demux.proofs.Trimmed.{trimmed}
 
 -- ---- it is a demuxer
 

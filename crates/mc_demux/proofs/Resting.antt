@@ -1,7 +1,7 @@
 -- Where nothing is to be done and no selected track has a packet at its head, each of them can be its end or a failure.
-use Rattle.std.proofs.Common.{◌≡◌, ℕ, ◌+◌, ◌≤◌, ◌<◌, Bool, true, false, ◌&&◌, ◌||◌, not, Option, Some, None, List, [], ◌∷◌, refl, ap, sym, subst, ◌∙◌, inl, inr, arith, ◌⊎◌}
-use Rattle.std.specs.Prelude.{map, nat_le, if◌then◌else◌, is_some, IfSome, IsSomeAnd}
-use Rattle.std.specs.List.{filter, find, AllByRecursion}
+use Rattle.std.proofs.Common.{◌≡◌, ℕ, ◌≤◌, ◌<◌, Bool, true, false, ◌||◌, not, Option, Some, None, List, [], ◌∷◌, refl, ap, sym, subst, ◌∙◌, inl, inr, arith}
+use Rattle.std.specs.Prelude.{nat_le, if◌then◌else◌, is_some, IfSome}
+use Rattle.std.specs.List.{find, AllByRecursion}
 use Rattle.std.proofs.lemmas.Bool.{cases_Bool, eq-eqb}
 use Rattle.std.proofs.lemmas.Bool.Decides.{nat_tests}
 use Rattle.mc_journal.specs.Views.{wants_more, from_place}
@@ -10,7 +10,7 @@ use Rattle.mc_packet.specs.declared.packet.Pos.{Pos}
 use Rattle.mc_packet.specs.declared.choice.Choice.{Choice}
 use Rattle.mc_packet.specs.declared.cache.Heads.{Heads}
 use Rattle.mc_packet.specs.declared.walk.Ending.{Ending}
-use Rattle.mc_packet.specs.Choices.{or_else, is_track, has, is_empty, lead_of}
+use Rattle.mc_packet.specs.Choices.{or_else, is_track, has, is_empty}
 use Rattle.mc_journal.specs.Choices.{meets, of_track, total_of}
 use Rattle.mc_journal.specs.Films.{rank}
 use Rattle.mc_queue.specs.Places.{is_from, weights}
@@ -19,16 +19,14 @@ use Rattle.mc_range.specs.Range.{RangeState, queue_of}
 use Rattle.mc_cache.specs.Cache.{ending_in, mark_in, in_front}
 use Rattle.mc_demux.proofs.Forward.{forward_kinds}
 use Rattle.mc_demux.specs.declared.answer.Peek.TheVariants.{Finish}
-use Rattle.mc_demux.specs.declared.answer.Reading.{Reading}
-use Rattle.mc_demux.specs.declared.job.Job.{Job}
-use Rattle.mc_demux.specs.declared.job.Job.TheVariants.{SeekTo, Refresh, Resume, Read, Idle}
+use Rattle.mc_demux.specs.declared.job.Job.TheVariants.{Refresh, Idle}
 use Rattle.mc_demux.specs.declared.waiting.Target.{Target}
 use Rattle.mc_demux.specs.declared.waiting.Failure.{Failure}
 use Rattle.mc_demux.specs.declared.waiting.Failure.TheVariants.{Failed, Starved}
 use Rattle.mc_demux.specs.State.{DemuxState, head_of, first_at, next_in, end_in, ahead, ahead_in, forward_of}
 use Rattle.mc_demux.specs.Jobs.{read_at, wants, some_wants, is_full, read_job, start_job, job_of}
-use Rattle.mc_demux.specs.Demuxers.{IsDemux, IsPlaced, AreQueued, HaveHeads}
-use Rattle.mc_demux.specs.Readings.{reading_by, past_packets, waiting_for, reading_of, peek_at}
+use Rattle.mc_demux.specs.Demuxers.{IsDemux, IsPlaced, HaveHeads}
+use Rattle.mc_demux.specs.Readings.{past_packets, reading_of, peek_at}
 
 -- ---- what nothing at the heads means
 

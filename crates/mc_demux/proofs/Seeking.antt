@@ -1,6 +1,6 @@
 -- A seek leaves a demuxer that stands for the film.
-use Rattle.std.proofs.Common.{◌≡◌, ℕ, Bool, true, false, ◌&&◌, ◌||◌, Option, Some, None, List, [], ◌∷◌, refl, ap, sym, subst, ◌∙◌, inl, inr, ◌==◌}
-use Rattle.std.specs.Prelude.{map, not, if◌then◌else◌, is_some, IfSome, IsSomeAnd, ℤ}
+use Rattle.std.proofs.Common.{◌≡◌, ℕ, Bool, true, false, ◌&&◌, ◌||◌, Option, Some, None, List, ◌∷◌, refl, ap, sym, subst, ◌∙◌, inl, inr}
+use Rattle.std.specs.Prelude.{map, not, IfSome, ℤ}
 use Rattle.std.specs.List.{AllByRecursion}
 use Rattle.std.specs.Bool.{MatchBool}
 use Rattle.std.specs.Option.{option_map}
@@ -16,19 +16,17 @@ use Rattle.mc_journal.specs.declared.record.DemuxRecord.TheVariants.{Sought}
 use Rattle.mc_packet.specs.declared.packet.Packet.{Packet}
 use Rattle.mc_packet.specs.Choices.{has, is_track, is_empty, nothing}
 use Rattle.mc_journal.specs.Choices.{kept_of, kept_track}
-use Rattle.mc_journal.specs.Films.{Film, start_of}
-use Rattle.mc_journal.specs.Ranges.{Range}
-use Rattle.mc_journal.specs.Readings.{selected, follows, target, direction, switcher, waits, read_from}
-use Rattle.mc_journal.specs.Stands.{Stand, stand, after, tidied}
+use Rattle.mc_journal.specs.Films.{Film}
+use Rattle.mc_journal.specs.Readings.{selected, follows, target, direction, switcher, waits}
+use Rattle.mc_journal.specs.Stands.{stand}
 use Rattle.mc_journal.specs.Views.{head, was_ended}
 use Rattle.mc_journal.specs.Allowed.{MaySeek, how_by, is_served, joinable}
-use Rattle.mc_journal.specs.Used.{IsUsed, is_still, is_begun, are_told, due, joins_now}
+use Rattle.mc_journal.specs.Used.{is_still, is_begun, are_told, due, joins_now}
 use Rattle.mc_range.specs.Range.{RangeState, as_range}
 use Rattle.mc_range.specs.Serving.{HoldsFilm}
 use Rattle.mc_demux.specs.declared.waiting.Target.{Target}
 use Rattle.mc_demux.specs.declared.waiting.Switch.{Switch}
 use Rattle.mc_demux.specs.declared.waiting.Failure.{Failure}
-use Rattle.mc_demux.specs.Seeking.{target_after}
 use Rattle.mc_demux.specs.Film.{Fits, PlacesAre}
 
 -- ---- at rest no seek is owed

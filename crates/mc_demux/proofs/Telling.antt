@@ -1,6 +1,6 @@
 -- What a read of a track rests on: the end that is cached, the packet that is given, and room.
-use Rattle.std.proofs.Common.{◌≡◌, ℕ, ◌+◌, ◌*◌, ◌^◌, ◌≤◌, ◌<◌, Bool, true, false, Option, Some, None, List, [], ◌∷◌, ◌++◌, refl, ap, sym, subst, ◌∙◌, inl, inr, arith, length}
-use Rattle.std.specs.Prelude.{if◌then◌else◌, is_some, nat_le, sum_by, Ok}
+use Rattle.std.proofs.Common.{◌≡◌, ℕ, ◌*◌, ◌^◌, ◌≤◌, ◌<◌, true, false, Option, Some, None, List, [], ◌∷◌, refl, ap, sym, subst, ◌∙◌, inl, inr, arith, length}
+use Rattle.std.specs.Prelude.{if◌then◌else◌, is_some, nat_le, Ok}
 use Rattle.std.proofs.lemmas.Bool.{cases_Bool}
 use Rattle.std.proofs.lemmas.List.Sums.{sum_by-cons}
 use Rattle.mc_packet.specs.declared.packet.Packet.{Packet}
@@ -8,16 +8,14 @@ use Rattle.mc_packet.specs.declared.choice.Choice.{Choice}
 use Rattle.mc_packet.specs.declared.cache.Heads.{Heads}
 use Rattle.mc_packet.specs.declared.walk.Ending.{Ending}
 use Rattle.mc_journal.specs.declared.record.DemuxRecord.{DemuxRecord}
-use Rattle.mc_packet.specs.Choices.{has, nothing}
+use Rattle.mc_packet.specs.Choices.{has}
 use Rattle.mc_journal.specs.Films.{Film}
 use Rattle.mc_queue.specs.Places.{weight_of as packet_weight, weights}
 use Rattle.mc_queue.specs.Queue.{QueueState}
-use Rattle.mc_range.specs.Range.{RangeState, count, queue_of, weight_in, IsRoomier, AreRoomier, Roomier}
-use Rattle.mc_range.specs.Tracks.{count_of_all}
+use Rattle.mc_range.specs.Range.{RangeState, count, queue_of, weight_in, IsRoomier, Roomier}
 use Rattle.mc_cache.specs.Cache.{CacheState, count_in, count_of, ending_in, ranges_of, weight_of, weight_in as weight_in_range}
 use Rattle.mc_cache.specs.Pruning.{ahead_in}
 use Rattle.mc_cache.specs.Changing.{IsSameButRoom, RoomierIn}
-use Rattle.mc_range.specs.declared.queues.Queues.{Queues}
 use Rattle.mc_demux.specs.declared.answer.Reading.{Reading}
 use Rattle.mc_demux.specs.declared.answer.Reading.TheVariants.{Gave, NotYet, End, Overfull, Fault, Wanting, Unselected}
 use Rattle.mc_demux.specs.declared.waiting.Failure.{Failure}
@@ -26,7 +24,7 @@ use Rattle.mc_demux.specs.declared.waiting.Target.{Target}
 use Rattle.mc_demux.specs.State.{DemuxState, next_in, end_in, forward_of}
 use Rattle.mc_demux.specs.Demuxers.{IsDemux, IsPlaced}
 use Rattle.mc_demux.specs.Keeping.{IsAsBefore, IsRoomy}
-use Rattle.mc_demux.specs.Readings.{Gives, Reads, ReadsWith, ended_after, heads_after, past, past_packets, reading_by, reading_of, record_of, waiting_for, with_head}
+use Rattle.mc_demux.specs.Readings.{Gives, Reads, ReadsWith, ended_after, heads_after, past, past_packets, reading_by, reading_of, record_of}
 use Rattle.mc_demux.specs.Film.{StandsFor}
 use Rattle.mc_demux.specs.Records.{HasRoom}
 use Rattle.mc_demux.proofs.Answering.{gives_keep, told_of}

@@ -1,21 +1,17 @@
 -- What stays so while packets are dropped as the limit asks.
-use Rattle.std.proofs.Common.{◌≡◌, ℕ, ◌+◌, ◌≤◌, ◌<◌, Bool, true, false, ◌||◌, Option, Some, None, List, [], ◌∷◌, ◌++◌, refl, ap, sym, subst, ◌∙◌, inl, inr, arith, ◌==◌, append_assoc}
-use Rattle.std.specs.Prelude.{if◌then◌else◌, is_some, IfSome, IsSomeAnd}
+use Rattle.std.proofs.Common.{◌≡◌, ℕ, ◌≤◌, ◌<◌, true, false, Option, Some, None, List, [], ◌∷◌, ◌++◌, refl, ap, sym, subst, ◌∙◌, inl, inr, arith, ◌==◌, append_assoc}
+use Rattle.std.specs.Prelude.{is_some}
 use Rattle.std.specs.List.{AllByRecursion}
 use Rattle.std.proofs.lemmas.Bool.{cases_Bool}
 use Rattle.mc_packet.specs.declared.packet.Pos.{Pos}
 use Rattle.mc_packet.specs.declared.choice.Kind.TheVariants.{Video, Audio, Sub}
 use Rattle.mc_packet.specs.declared.choice.Choice.{Choice}
 use Rattle.mc_packet.specs.declared.cache.Heads.{Heads}
-use Rattle.mc_packet.specs.declared.cache.Limits.{Limits}
-use Rattle.mc_packet.specs.declared.walk.Ending.{Ending}
 use Rattle.mc_packet.specs.declared.walk.Mark.{Mark}
-use Rattle.mc_journal.specs.Films.{rank}
-use Rattle.mc_packet.specs.Choices.{or_else, has, nothing}
+use Rattle.mc_packet.specs.Choices.{or_else, nothing}
 use Rattle.mc_journal.specs.declared.record.DemuxRecord.{DemuxRecord}
 use Rattle.mc_journal.specs.declared.record.DemuxRecord.TheVariants.{Dropped}
 use Rattle.mc_journal.specs.declared.record.Removal.{Removal}
-use Rattle.mc_journal.specs.Views.{from_place}
 use Rattle.mc_queue.specs.Places.{weights}
 use Rattle.mc_queue.specs.Queue.{QueueState}
 use Rattle.mc_range.specs.declared.queues.Queues.{Queues}
@@ -25,11 +21,10 @@ use Rattle.mc_cache.specs.Cache.{CacheState, IsCache, count_of, ending_in, mark_
 use Rattle.mc_range.specs.declared.cutting.Cut.{Cut}
 use Rattle.mc_cache.specs.Pruning.{CutsRange, Drops, Prunes, ahead_in}
 use Rattle.mc_demux.specs.declared.waiting.Target.{Target}
-use Rattle.mc_demux.specs.State.{head_of}
-use Rattle.mc_demux.specs.Demuxers.{IsPlaced, AreQueued, HaveHeads}
+use Rattle.mc_demux.specs.Demuxers.{IsPlaced}
 use Rattle.mc_demux.specs.Records.{IsLimitDrop, IsLimit}
 use Rattle.mc_demux.specs.Trimming.{Trims, none, more}
-use Rattle.mc_demux.proofs.Pruned.{LessIn, LessAll, LessCurrent, IsLessCache, drop_less}
+use Rattle.mc_demux.proofs.Pruned.{LessIn, LessAll, LessCurrent, drop_less}
 
 -- ---- the queues that there are
 

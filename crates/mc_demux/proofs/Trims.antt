@@ -1,9 +1,9 @@
 -- Drops that the limit asks for, one by one, leave a demuxer that stands for the film.
-use Rattle.std.proofs.Common.{◌≡◌, ℕ, ◌+◌, ◌≤◌, ◌<◌, ◌-◌, Bool, true, false, ◌&&◌, not, Option, Some, None, List, [], ◌∷◌, ◌++◌, refl, ap, sym, subst, ◌∙◌, inl, inr, arith}
-use Rattle.std.specs.Prelude.{is_some, IfSome, IsSomeAnd, map, reverse, sum_by, drop}
+use Rattle.std.proofs.Common.{◌≡◌, ℕ, ◌<◌, ◌-◌, true, not, Option, Some, None, List, [], ◌∷◌, ◌++◌, refl, ap, sym, subst, ◌∙◌}
+use Rattle.std.specs.Prelude.{IfSome, map, reverse, sum_by, drop}
 use Rattle.std.specs.List.{filter, AllByRecursion}
 use Rattle.std.specs.Option.{option_map, option_map_or}
-use Rattle.std.proofs.lemmas.Bool.{cases_Bool, and_parts}
+use Rattle.std.proofs.lemmas.Bool.{and_parts}
 use Rattle.mc_packet.specs.declared.choice.Choice.{Choice}
 use Rattle.mc_packet.specs.declared.cache.Heads.{Heads}
 use Rattle.mc_packet.specs.declared.cache.Limits.{Limits}
@@ -15,16 +15,15 @@ use Rattle.mc_packet.specs.declared.packet.Packet.{Packet}
 use Rattle.mc_journal.specs.Films.{Film, rank}
 use Rattle.mc_journal.specs.Ranges.{Range}
 use Rattle.mc_journal.specs.Readings.{selected, follows}
-use Rattle.mc_journal.specs.Stands.{Stand, stand, cut_in, holds_any, ranges_of as stand_ranges}
+use Rattle.mc_journal.specs.Stands.{stand, cut_in, holds_any, ranges_of as stand_ranges}
 use Rattle.mc_journal.specs.Views.{back, forward, head, range_weight}
-use Rattle.mc_journal.specs.Allowed.{MayCut, joinable}
+use Rattle.mc_journal.specs.Allowed.{MayCut}
 use Rattle.mc_journal.specs.Used as used
 use Rattle.mc_range.specs.declared.cutting.Cut.{Cut}
 use Rattle.mc_range.specs.Range.{RangeState, IsRange, as_range}
 use Rattle.mc_range.specs.Serving.{HoldsFilm}
-use Rattle.mc_range.specs.Cutting.{IsCut}
 use Rattle.mc_cache.specs.Cache.{CacheState, IsCache, IsOther, in_front, ranges_of, weight_of}
-use Rattle.mc_cache.specs.Pruning.{CutsFront, CutsRange, Drops, ahead_in, back_of, removal_by}
+use Rattle.mc_cache.specs.Pruning.{CutsFront, CutsRange, Drops, back_of, removal_by}
 use Rattle.mc_demux.specs.declared.waiting.Target.{Target}
 use Rattle.mc_demux.specs.declared.waiting.Switch.{Switch}
 use Rattle.mc_demux.specs.declared.waiting.Failure.{Failure}

@@ -1,5 +1,5 @@
 -- What asking for a job answers and leaves.
-use Rattle.std.specs.Prelude.{◌≡◌, ◌≤◌, Option, Result, Ok, Err}
+use Rattle.std.specs.Prelude.{◌≡◌, ◌≤◌, Result, Ok, Err}
 use Rattle.mc_demux.specs.declared.answer.DemuxError.{DemuxError}
 use Rattle.mc_demux.specs.declared.answer.DemuxError.TheVariants.{Refused, JournalFull, NoMemory}
 use Rattle.mc_demux.specs.declared.job.Job.{Job}

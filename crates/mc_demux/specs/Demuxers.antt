@@ -1,16 +1,15 @@
 -- What is true of every demuxer.
-use Rattle.std.specs.Prelude.{◌≡◌, ℕ, ◌+◌, ◌*◌, ◌≤◌, ◌<◌, ◌^◌, ◌==◌, Bool, true, false, ◌||◌, List, [], length, Option, Some, None, ℤ, pos, ◌≤ℤ◌, IfSome, IsSomeAnd, is_some, ⊤}
+use Rattle.std.specs.Prelude.{◌≡◌, ℕ, ◌+◌, ◌*◌, ◌≤◌, ◌<◌, ◌^◌, true, false, List, [], length, Option, Some, None, pos, ◌≤ℤ◌, IfSome, IsSomeAnd, is_some}
 use Rattle.std.specs.List.{AllByRecursion}
 use Rattle.mc_packet.specs.declared.choice.Choice.{Choice}
 use Rattle.mc_packet.specs.declared.cache.Heads.{Heads}
 use Rattle.mc_packet.specs.declared.cache.Limits.{Limits}
 use Rattle.mc_packet.specs.Choices.{has, is_empty, is_distinct, is_known, nothing}
 use Rattle.mc_range.specs.Range.{RangeState, queue_of}
-use Rattle.mc_cache.specs.Cache.{CacheState, IsCache, ranges_of, weight_of}
+use Rattle.mc_cache.specs.Cache.{IsCache, ranges_of, weight_of}
 use Rattle.mc_demux.specs.declared.job.Job.{Job}
 use Rattle.mc_demux.specs.declared.job.Job.TheVariants.{SeekTo, Refresh, Resume, Read, Idle}
 use Rattle.mc_demux.specs.declared.waiting.Target.{Target}
-use Rattle.mc_demux.specs.declared.waiting.Switch.{Switch}
 use Rattle.mc_demux.specs.State.{DemuxState, head_of, forward_of, back_of}
 use Rattle.mc_tracks.specs.Selection.{knows}
 

@@ -1,5 +1,5 @@
 -- Which film a demuxer stands for.
-use Rattle.std.specs.Prelude.{◌≡◌, ℕ, ◌≤◌, ◌<◌, ⊤, Bool, true, false, List, [], ◌∷◌, map, reverse, Option, Some, None, IfSome, IsSomeAnd, is_some}
+use Rattle.std.specs.Prelude.{◌≡◌, ℕ, ◌≤◌, ◌<◌, ⊤, true, List, map, reverse, Option, Some, IfSome, IsSomeAnd, is_some}
 use Rattle.std.specs.List.{AllByRecursion}
 use Rattle.std.specs.Option.{option_map}
 use Rattle.mc_packet.specs.declared.choice.Choice.{Choice}
@@ -11,7 +11,6 @@ use Rattle.mc_journal.specs.declared.record.DemuxRecord.TheVariants.{Failed as F
 use Rattle.mc_packet.specs.Choices.{has}
 use Rattle.mc_journal.specs.Choices.{kept_of}
 use Rattle.mc_journal.specs.Films.{Film, IsFilm, IsRegular, first_lane, rank, start_of, switch_start}
-use Rattle.mc_packet.specs.declared.packet.Packet.{Packet}
 use Rattle.mc_journal.specs.Ranges.{within}
 use Rattle.mc_journal.specs.Allowed.{EachStart}
 use Rattle.mc_journal.specs.Readings.{selected, pending, waits, target, direction, last_fault, read_from}
@@ -21,7 +20,7 @@ use Rattle.mc_journal.specs.Used.{IsUsed, is_still, place_of_starts}
 use Rattle.mc_packet.specs.declared.choice.Starts.{Starts}
 use Rattle.mc_packet.specs.declared.walk.Chunk.{Chunk}
 use Rattle.mc_demux.specs.declared.job.Job.{Job}
-use Rattle.mc_demux.specs.declared.job.Job.TheVariants.{SeekTo, Refresh, Resume, Read, Idle}
+use Rattle.mc_demux.specs.declared.job.Job.TheVariants.{SeekTo, Refresh}
 use Rattle.mc_range.specs.Range.{RangeState, as_range, queue_of}
 use Rattle.mc_range.specs.Serving.{HoldsFilm}
 use Rattle.mc_demux.specs.declared.waiting.Target.{Target}

@@ -1,21 +1,13 @@
 -- The job that is to be done next.
-use Rattle.std.specs.Prelude.{◌≡◌, ℕ, nat_le, Bool, true, false, ◌||◌, not, if◌then◌else◌, List, [], ◌∷◌, map, Option, Some, None, ℤ, is_some}
-use Rattle.mc_packet.specs.declared.packet.Packet.{Packet}
-use Rattle.mc_packet.specs.declared.choice.Choice.{Choice}
-use Rattle.mc_packet.specs.declared.cache.Heads.{Heads}
+use Rattle.std.specs.Prelude.{ℕ, nat_le, Bool, ◌||◌, not, if◌then◌else◌, Option, Some, None, is_some}
 use Rattle.mc_packet.specs.declared.walk.Mark.{Mark}
 use Rattle.mc_packet.specs.Choices.{is_empty, lead_of}
 use Rattle.mc_journal.specs.Choices.{meets}
-use Rattle.mc_journal.specs.Views.{wants_more, from_place}
-use Rattle.mc_queue.specs.Queue.{QueueState}
-use Rattle.mc_packet.specs.declared.packet.Pos.{Pos}
-use Rattle.mc_journal.specs.Films.{rank}
-use Rattle.mc_range.specs.Range.{RangeState, queue_of}
+use Rattle.mc_journal.specs.Views.{wants_more}
 use Rattle.mc_cache.specs.Cache.{ending_in, mark_in}
 use Rattle.mc_demux.specs.declared.job.Job.{Job}
 use Rattle.mc_demux.specs.declared.job.Job.TheVariants.{SeekTo, Refresh, Resume, Read, Idle}
 use Rattle.mc_demux.specs.declared.waiting.Target.{Target}
-use Rattle.mc_demux.specs.declared.waiting.Switch.{Switch}
 use Rattle.mc_demux.specs.State.{DemuxState, ahead_in, forward_of}
 
 -- ---- whether a track wants to be read on

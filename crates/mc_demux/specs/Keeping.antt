@@ -1,5 +1,5 @@
 -- What a call leaves alone.
-use Rattle.std.specs.Prelude.{◌≡◌, ◌≤◌, List}
+use Rattle.std.specs.Prelude.{◌≡◌, ◌≤◌}
 use Rattle.mc_cache.specs.Changing.{IsSameButRoom}
 use Rattle.mc_demux.specs.State.{DemuxState}
 

@@ -1,5 +1,5 @@
 -- A demuxer that was just made.
-use Rattle.std.specs.Prelude.{◌≡◌, ℕ, true, false, List, [], ◌∷◌, Option, Some, None, Result, Ok, Err, pos, ⊤, IsSomeAnd}
+use Rattle.std.specs.Prelude.{◌≡◌, ℕ, true, false, List, [], ◌∷◌, None, Result, Ok, Err, pos, ⊤, IsSomeAnd}
 use Rattle.std.specs.Option.{option_map}
 use Rattle.mc_packet.specs.declared.choice.Choice.{Choice}
 use Rattle.mc_packet.specs.declared.choice.Kind.{Kind}
@@ -14,7 +14,7 @@ use Rattle.mc_packet.specs.Choices.{is_known, nothing}
 use Rattle.mc_journal.specs.Films.{Film, IsFilm}
 use Rattle.mc_range.specs.Range.{IsBegun}
 use Rattle.mc_demux.specs.declared.answer.DemuxError.{DemuxError}
-use Rattle.mc_demux.specs.declared.answer.DemuxError.TheVariants.{Refused, JournalFull, NoMemory}
+use Rattle.mc_demux.specs.declared.answer.DemuxError.TheVariants.{NoMemory}
 use Rattle.mc_journal.specs.Callers.{driver}
 use Rattle.mc_demux.specs.State.{DemuxState}
 use Rattle.mc_demux.specs.Demuxers.{AreLimits}

@@ -1,11 +1,10 @@
 -- The records that one call writes.
-use Rattle.std.specs.Prelude.{◌≡◌, ℕ, ◌≤◌, ◌<◌, List, [], ◌∷◌, ◌++◌, length, Option, Some, None, ⊤}
+use Rattle.std.specs.Prelude.{◌≡◌, ℕ, ◌≤◌, ◌<◌, List, ◌∷◌, ◌++◌, length, ⊤}
 use Rattle.std.specs.List.{AllByRecursion}
 use Rattle.mc_journal.specs.declared.record.DemuxRecord.{DemuxRecord}
-use Rattle.mc_journal.specs.declared.record.DemuxRecord.TheVariants.{Sought, Dropped, Joined}
+use Rattle.mc_journal.specs.declared.record.DemuxRecord.TheVariants.{Dropped, Joined}
 use Rattle.mc_journal.specs.declared.record.Cause.TheVariants.{Limit}
 use Rattle.mc_journal.specs.declared.record.Cause.{Cause}
-use Rattle.mc_journal.specs.declared.record.Sought.TheVariants.{Sent}
 
 -- a journal is full at 16,000,000 records
 abbrev pub HasRoom : List DemuxRecord → Type 0

@@ -1,5 +1,5 @@
 -- A demuxer as contracts see it, and what is read off it.
-use Rattle.std.specs.Prelude.{◌≡◌, ℕ, ◌+◌, Bool, if◌then◌else◌, List, [], ◌∷◌, ◌++◌, length, Option, Some, None, IfSome, IsSomeAnd, is_some, ⊤}
+use Rattle.std.specs.Prelude.{ℕ, ◌+◌, Bool, if◌then◌else◌, List, [], Option, Some, None, is_some}
 use Rattle.std.specs.List.{find}
 use Rattle.mc_packet.specs.declared.packet.Packet.{Packet}
 use Rattle.mc_packet.specs.declared.packet.Pos.{Pos}
@@ -8,7 +8,7 @@ use Rattle.mc_packet.specs.declared.cache.Heads.{Heads}
 use Rattle.mc_packet.specs.declared.walk.Ending.{Ending}
 use Rattle.mc_tracks.specs.declared.track.Track.{Track}
 use Rattle.mc_journal.specs.declared.record.DemuxRecord.{DemuxRecord}
-use Rattle.mc_packet.specs.Choices.{is_track, has}
+use Rattle.mc_packet.specs.Choices.{is_track}
 use Rattle.mc_journal.specs.Films.{rank}
 use Rattle.mc_queue.specs.Places.{is_from}
 use Rattle.mc_journal.specs.Views.{from_place}

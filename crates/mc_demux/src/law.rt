@@ -18,17 +18,23 @@ ghost use Rattle.mc_demux.specs.Film.{StandsFor};
 /// again. So what its readers were given is, of each track, a front of a fresh reading on a regular
 /// film, and a run of the track's packets on any, and an end is told only where there is none left.
 pub fn standing_journals()
-    ensures used { (film : Film) (d : DemuxState) → StandsFor film d → IsUsed film d.cache.limits (reverse d.journal) }
+    ensures used { (film : Film) (d : DemuxState) → StandsFor film d
+        → IsUsed film d.cache.limits (reverse d.journal) }
     ensures still { (film : Film) (d : DemuxState) → StandsFor film d
         → is_still film.packets (reverse d.journal) ≡ true }
-    ensures legal { (film : Film) (d : DemuxState) → StandsFor film d → IsRegular film.packets film.known → IsLegal film.packets film.ending (reverse d.journal) }
-    ensures gapless { (film : Film) (d : DemuxState) → StandsFor film d → IsGapless film.packets film.ending (reverse d.journal) }
+    ensures legal { (film : Film) (d : DemuxState) → StandsFor film d
+        → IsRegular film.packets film.known → IsLegal film.packets film.ending (reverse d.journal) }
+    ensures gapless { (film : Film) (d : DemuxState) → StandsFor film d
+        → IsGapless film.packets film.ending (reverse d.journal) }
 {}
 
 /// A track whose reader was told the end has no packet at its head, until the next seek or
 /// selection. Where nothing is to be done and no selected track has a packet at its head, a read
 /// of each of them answers an end, a failure or want of memory.
 pub fn resting_readers()
-    ensures ended { (film : Film) (d : DemuxState) (track : ℕ) → StandsFor film d → has d.ended track ≡ true → next_in d.set d.heads track d.cache.current ≡ None }
-    ensures told { (d : DemuxState) (track : ℕ) → IsDemux d → job_of d ≡ Idle → ((k : ℕ) → has d.set k ≡ true → next_in d.set d.heads k d.cache.current ≡ None) → has d.set track ≡ true → peek_at (reading_of track d) ≡ Finish }
+    ensures ended { (film : Film) (d : DemuxState) (track : ℕ) → StandsFor film d
+        → has d.ended track ≡ true → next_in d.set d.heads track d.cache.current ≡ None }
+    ensures told { (d : DemuxState) (track : ℕ) → IsDemux d → job_of d ≡ Idle
+        → ((k : ℕ) → has d.set k ≡ true → next_in d.set d.heads k d.cache.current ≡ None)
+        → has d.set track ≡ true → peek_at (reading_of track d) ≡ Finish }
 {}

@@ -1,6 +1,6 @@
 //! What a demuxer that stands for a film shows of itself, told by its journal: laws over every film
 //! and every state of a demuxer.
-ghost use Rattle.std.specs.Prelude.{◌≡◌, ℕ, ◌+◌, ◌≤◌, None, ◌&&◌, ◌||◌, not, is_some, IfSome, reverse};
+ghost use Rattle.std.specs.Prelude.{◌≡◌, ℕ, ◌+◌, ◌≤◌, None, ◌&&◌, IfSome, reverse};
 ghost use Rattle.std.specs.Option.{option_map};
 ghost use Rattle.mc_packet.specs.declared.packet.Packet.{Packet};
 ghost use Rattle.mc_packet.specs.declared.walk.Mark.{Mark};
@@ -8,10 +8,10 @@ ghost use Rattle.mc_cache.specs.Cache.{mark_in};
 ghost use Rattle.mc_journal.specs.declared.record.DemuxRecord.{DemuxRecord};
 ghost use Rattle.mc_packet.specs.Choices.{has};
 ghost use Rattle.mc_journal.specs.Films.{Film, at, rank};
-ghost use Rattle.mc_journal.specs.Readings.{selected, failed};
+ghost use Rattle.mc_journal.specs.Readings.{selected};
+ghost use Rattle.mc_journal.specs.Drives.{can_tell};
 ghost use Rattle.mc_journal.specs.Ranges.{Range};
 ghost use Rattle.mc_journal.specs.Stands.{stand};
-ghost use Rattle.mc_journal.specs.Used.{can_end};
 ghost use Rattle.mc_journal.specs.Views.{back, forward, is_idle, next};
 ghost use Rattle.mc_demux.specs.State.{DemuxState, back_of, forward_of, next_in};
 ghost use Rattle.mc_demux.specs.Jobs.{job_of};
@@ -33,13 +33,24 @@ ghost use Rattle.mc_demux.specs.Shows.{GivesNone, goal_of, is_finish, is_idle_jo
 /// behind it bring one (`quiet`). Nothing is to be done exactly where by the journal the demuxer is
 /// idle (`idle`).
 pub fn shown_readers()
-    ensures front { (film : Film) (d : DemuxState) (track : ℕ) → StandsFor film d → option_map (λ (p : Packet). rank p.pos) (next_in d.set d.heads track d.cache.current) ≡ option_map at (next film.packets (reverse d.journal) track) }
-    ensures own { (d : DemuxState) (track : ℕ) → IsDemux d → IfSome (next_in d.set d.heads track d.cache.current) (λ p. p.track ≡ track) }
-    ensures set { (film : Film) (d : DemuxState) → StandsFor film d → d.set ≡ selected (reverse d.journal) }
-    ensures pending { (film : Film) (d : DemuxState) → StandsFor film d → option_map goal_of d.seeking ≡ pending_goal (reverse d.journal) }
-    ensures tells { (film : Film) (d : DemuxState) (track : ℕ) → StandsFor film d → (has d.set track && is_finish (peek_at (reading_of track d))) ≡ (has (selected (reverse d.journal)) track && (not (is_some (next film.packets (reverse d.journal) track)) && (can_end film.packets (reverse d.journal) track || failed (reverse d.journal)))) }
-    ensures quiet { (film : Film) (d e : DemuxState) (track : ℕ) (by : ℕ) (own : DemuxRecord) → StandsFor film d → StandsFor film e → Wrote by own d.journal e.journal → GivesNone own → next_in d.set d.heads track d.cache.current ≡ None → next_in e.set e.heads track e.cache.current ≡ None }
-    ensures idle { (film : Film) (d : DemuxState) → IsDemux d → StandsFor film d → is_idle_job (job_of d) ≡ is_idle film.packets d.cache.limits (reverse d.journal) }
+    ensures front { (film : Film) (d : DemuxState) (track : ℕ) → StandsFor film d
+        → option_map (λ (p : Packet). rank p.pos) (next_in d.set d.heads track d.cache.current)
+        ≡ option_map at (next film.packets (reverse d.journal) track) }
+    ensures own { (d : DemuxState) (track : ℕ) → IsDemux d
+        → IfSome (next_in d.set d.heads track d.cache.current) (λ p. p.track ≡ track) }
+    ensures set { (film : Film) (d : DemuxState) → StandsFor film d
+        → d.set ≡ selected (reverse d.journal) }
+    ensures pending { (film : Film) (d : DemuxState) → StandsFor film d
+        → option_map goal_of d.seeking ≡ pending_goal (reverse d.journal) }
+    ensures tells { (film : Film) (d : DemuxState) (track : ℕ) → StandsFor film d
+        → (has d.set track && is_finish (peek_at (reading_of track d)))
+        ≡ can_tell film (reverse d.journal) track }
+    ensures quiet { (film : Film) (d e : DemuxState) (track : ℕ) (by : ℕ) (own : DemuxRecord)
+        → StandsFor film d → StandsFor film e → Wrote by own d.journal e.journal → GivesNone own
+        → next_in d.set d.heads track d.cache.current ≡ None
+        → next_in e.set e.heads track e.cache.current ≡ None }
+    ensures idle { (film : Film) (d : DemuxState) → IsDemux d → StandsFor film d
+        → is_idle_job (job_of d) ≡ is_idle film.packets d.cache.limits (reverse d.journal) }
 {}
 
 /// The octets ahead of the readers and behind them are those that the journal tells (`forward`,

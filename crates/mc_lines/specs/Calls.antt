@@ -15,7 +15,6 @@ use Rattle.mc_journal.specs.declared.record.DemuxRecord.TheVariants.{Sought, Swi
 use Rattle.mc_packet.specs.Choices.{is_empty}
 use Rattle.mc_journal.specs.Films.{rank}
 use Rattle.mc_journal.specs.Readings.{direction, pending, target}
-use Rattle.mc_packet.specs.declared.packet.Packet.{Packet}
 use Rattle.mc_journal.specs.Told.{gave_by}
 use Rattle.mc_demux.specs.declared.answer.DemuxError.{DemuxError}
 use Rattle.mc_demux.specs.declared.answer.DemuxError.TheVariants as errors

@@ -3,7 +3,7 @@ use Rattle.std.proofs.Common.{◌≡◌, ℕ, zero, suc, ◌+◌, ◌-◌, ◌<�
 use Rattle.std.proofs.lemmas.Bool.{cases_Bool, cond_both, and_parts, eqb-true}
 use Rattle.std.proofs.lemmas.List.{length-replicate}
 use Rattle.std.proofs.lemmas.List.Elements.{All-head, All-take, All-drop}
-use Rattle.std.specs.Prelude.{All, IfOk, IfSome, ⊤, sum, slice_range, option_map, ◌==◌, ◌&&◌, ◌||◌, ◌%◌, ◌/◌, nat_lt, nat_le}
+use Rattle.std.specs.Prelude.{IfOk, IfSome, ⊤, sum, slice_range, option_map, ◌==◌, ◌&&◌, ◌||◌, ◌%◌, ◌/◌, nat_lt, nat_le}
 use Rattle.std.specs.List.{AllByRecursion}
 use Rattle.mc_packet.specs.declared.packet.Packet.{Packet}
 use Rattle.mc_packet.specs.declared.walk.Fault.{Fault}

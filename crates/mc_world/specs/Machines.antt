@@ -1,10 +1,7 @@
 -- What a driver would answer next, by its demuxer.
-use Rattle.std.specs.Prelude.{◌≡◌, ℕ, Bool, true, ◌&&◌, List, reverse, Option, Some, None, Result, Ok, Err, pos, unwrap_or, ⊤}
+use Rattle.std.specs.Prelude.{◌≡◌, ℕ, Bool, true, ◌&&◌, List, reverse, Result, pos, unwrap_or, ⊤}
 use Rattle.std.specs.Option.{option_map}
-use Rattle.mc_packet.specs.declared.choice.Choice.{Choice}
-use Rattle.mc_packet.specs.declared.choice.Why.{Why}
 use Rattle.mc_packet.specs.declared.packet.Packet.{Packet}
-use Rattle.mc_tracks.specs.declared.track.Track.{Track}
 use Rattle.mc_packet.specs.Choices.{has, lead_of}
 use Rattle.mc_journal.specs.Films.{rank}
 use Rattle.mc_journal.specs.Views.{time_of}

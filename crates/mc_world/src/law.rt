@@ -17,7 +17,8 @@ ghost use Rattle.mc_demux.specs.Film.{AreFilmStarts, IsPartOf};
 /// The chunk that stands at a mark of a film is a part of the film that a demuxer tells of, and its
 /// end is a mark again.
 pub fn film_parts()
-    ensures part { (plan : Plan) (m : Mark) → IsPlan plan → IsFilm (plan_packets plan) → IsMark plan m
+    ensures part { (plan : Plan) (m : Mark) → IsPlan plan → IsFilm (plan_packets plan)
+        → IsMark plan m
         → IsPartOf (film_for plan) (chunk_at plan m) }
     ensures mark { (plan : Plan) (m : Mark) → IsMark plan m → IsMark plan (chunk_at plan m).to }
 {}

@@ -1,4 +1,4 @@
-use Rattle.std.proofs.Common.{◌≡◌, Some, List, subst, sym, ◌∙◌}
+use Rattle.std.proofs.Common.{◌≡◌, Some, List, subst, sym}
 use Rattle.mc_outside.specs.Shelf.{content}
 use Rattle.mc_outside.proofs.Told.{content_bytes}
 use Rattle.mc_journal.specs.declared.record.DemuxRecord.{DemuxRecord}

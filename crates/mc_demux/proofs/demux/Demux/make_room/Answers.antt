@@ -1,4 +1,4 @@
-use Rattle.std.proofs.Common.{◌+◌, ◌<◌, arith}
+use Rattle.std.proofs.Common.{arith}
 use Rattle.mc_demux.proofs.Telling.{few_held}
 use Rattle.mc_demux.proofs.demux.Demux.make_room.Goals as goal
 

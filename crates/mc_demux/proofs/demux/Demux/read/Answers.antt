@@ -1,8 +1,8 @@
-use Rattle.std.proofs.Common.{ap, ◌≡◌, ◌<◌, arith, rules, length, sym, subst, vec_len, Some}
+use Rattle.std.proofs.Common.{ap, rules, sym, subst}
 use Rattle.mc_demux.specs.State.{DemuxState}
 use Rattle.mc_demux.specs.Demuxers.{IsDemux}
 use Rattle.mc_demux.specs.Records.{HasRoom}
-use Rattle.mc_demux.specs.Readings.{record_of, heads_after, ended_after}
+use Rattle.mc_demux.specs.Readings.{heads_after, ended_after}
 use Rattle.mc_demux.proofs.Telling.{read_told, tell_keeps}
 use Rattle.mc_demux.proofs.Among.{among_self, among_same, gives-among}
 use Rattle.mc_demux.proofs.Grown.{none_grew, roomy_grew, told_grew}

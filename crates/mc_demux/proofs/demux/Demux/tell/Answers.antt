@@ -1,4 +1,4 @@
-use Rattle.std.proofs.Common.{◌≡◌, ◌≤◌, subst, sym, ap, ◌∙◌}
+use Rattle.std.proofs.Common.{◌≤◌, subst, sym, ap, ◌∙◌}
 use Rattle.mc_packet.specs.declared.cache.Heads.{Heads}
 use Rattle.mc_cache.specs.Pruning.{ahead_in}
 use Rattle.mc_demux.specs.State.{DemuxState, forward_of}

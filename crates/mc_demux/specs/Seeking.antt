@@ -20,10 +20,6 @@ use Rattle.mc_demux.specs.Keeping.{IsAsBefore}
 use Rattle.mc_demux.specs.Records.{HasRoom, IsFull, Wrote}
 use Rattle.mc_demux.specs.Trimming.{Trims}
 
--- a time in nanoseconds that may be asked for
-abbrev pub IsNear : ℤ → Type 0
-IsNear t = (neg_ℤ (pos (2 ^ 62)) ≤ℤ t) × (t ≤ℤ pos (2 ^ 62))
-
 -- it is refused: one record tells why, and all else stays but room
 pub record IsRefused (by : ℕ) (why : Why) (old new : DemuxState) : Type 0 where
   pub changed : new ≡ record old { cache = new.cache; journal = old.journal ++ RefusedRecord by why ∷ []; spare = new.spare }

@@ -18,15 +18,10 @@ use crate::answer::{DemuxError, Taken};
 use crate::demux::{Demux, Records};
 use crate::joining::{settle, tell_drops};
 use crate::reading::FULL;
+use crate::seek::NOTHING;
 use mc_cache::Cache;
 use mc_journal::{DEMUXER, DemuxRecord};
 use mc_packet::{Choice, Heads, Kind, Mark, NoMemory, Pos, Starts, TrackNo};
-
-const NOTHING: Choice = Choice {
-    video: None,
-    audio: None,
-    sub: None,
-};
 
 fn head_at(start: Option<u64>, head: Option<Pos>) -> Option<Pos>
     ensures { result ≡ head_at start head }

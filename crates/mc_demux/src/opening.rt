@@ -12,7 +12,7 @@ ghost use Rattle.mc_demux.specs.Outcomes.{head_at, heads_at};
 
 use crate::answer::DemuxError;
 use crate::demux::Demux;
-use crate::seek::nothing;
+use crate::seek::NOTHING;
 use crate::waiting::Switch;
 use mc_cache::Cache;
 use mc_journal::{DRIVER, DemuxRecord};
@@ -108,10 +108,10 @@ impl Demux {
             set,
             heads: first_heads(&starts),
             seeking: None,
-            waiting: nothing(),
+            waiting: NOTHING,
             switch: Switch { lead: None, at: 0 },
             failure: None,
-            ended: nothing(),
+            ended: NOTHING,
             number: 1,
             kept: None,
             fed: false,

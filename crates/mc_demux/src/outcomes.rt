@@ -52,7 +52,9 @@ impl Demux {
         Taken::Taken
     }
 
-    /// The same where memory was wanting.
+    /// The job of this number came to nothing for want of memory. Until the next seek or selection
+    /// nothing is read on, and readers are told. `Stale` exactly where the number is not the present
+    /// one: then nothing changes. It takes no memory.
     pub fn starved(&mut self, no: u64) -> Taken
         requires brought { BringsFailure no self.old }
         ensures value { Fails no Starved (StarvedRecord demuxer) self.old result self.new }

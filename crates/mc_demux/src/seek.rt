@@ -1,7 +1,7 @@
 //! Seeks: answered from the cache where a range serves them, else sent on.
 ghost use Rattle.std.specs.Prelude.{◌≡◌, ◌≤◌, ◌+◌, ◌++◌, ◌∷◌, [], false, OnOk, OnErr, is_some};
 ghost use Rattle.mc_journal.specs.Allowed.{how_by};
-ghost use Rattle.mc_packet.specs.Choices.{is_empty, nothing};
+ghost use Rattle.mc_packet.specs.Choices.{is_empty};
 ghost use Rattle.mc_journal.specs.Films.{Film};
 ghost use Rattle.mc_cache.specs.Cache.{IsCache, count_of, ranges_of};
 ghost use Rattle.mc_cache.specs.Changing.{heads_in, server};
@@ -23,15 +23,11 @@ use mc_journal::{DemuxRecord, Sought};
 use mc_packet::{Choice, Dir, Heads, NoMemory, Why};
 
 // No track.
-pub(crate) fn nothing() -> Choice
-    ensures { result ≡ nothing }
-{
-    Choice {
-        video: None,
-        audio: None,
-        sub: None,
-    }
-}
+pub(crate) const NOTHING: Choice = Choice {
+    video: None,
+    audio: None,
+    sub: None,
+};
 
 fn target_after(t: i64, dir: Dir, how: Sought) -> Option<Target>
     ensures { result ≡ target_after t dir how }
@@ -93,9 +89,9 @@ impl Demux {
             how,
         });
         self.seeking = target_after(t, dir, how);
-        self.waiting = nothing();
+        self.waiting = NOTHING;
         self.failure = None;
-        self.ended = nothing();
+        self.ended = NOTHING;
         self.number += 1;
         self.kept = None;
         self.fed = false;

@@ -15,7 +15,7 @@ use crate::answer::{DemuxError, Selected};
 use crate::choosing::{choice_of, refusal_of};
 use crate::demux::{Demux, Records};
 use crate::reading::{FULL, has};
-use crate::seek::nothing;
+use crate::seek::NOTHING;
 use crate::trim::trim;
 use crate::viewing::lead_of;
 use crate::waiting::{Switch, Target};
@@ -28,7 +28,7 @@ fn waiting_after(seeking: Option<Target>, added: Choice) -> Choice
     ensures { result ≡ waiting_after seeking added }
 {
     match seeking {
-        Some(_) => nothing(),
+        Some(_) => NOTHING,
         None => added,
     }
 }
@@ -138,7 +138,7 @@ impl Demux {
             at,
         };
         self.failure = None;
-        self.ended = nothing();
+        self.ended = NOTHING;
         self.number += 1;
         self.kept = None;
         self.fed = false;

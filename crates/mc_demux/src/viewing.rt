@@ -155,8 +155,8 @@ impl Demux {
         Ok(())
     }
 
-    /// The same, recorded. Refused with `JournalFull` exactly where the journal has 16,000,000
-    /// records, and with `NoMemory`; nothing changes then but room.
+    /// Shows the caller `by` what `view` tells, and records it. Refused with `JournalFull` exactly
+    /// where the journal has 16,000,000 records, and with `NoMemory`; nothing changes then but room.
     pub fn show(&mut self, by: u32) -> Result<CacheView, DemuxError>
         ensures value { Shows by self.old result self.new }
         ensures grows { Grew by self.old.journal self.new.journal }

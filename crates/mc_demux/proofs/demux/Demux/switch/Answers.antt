@@ -1,9 +1,9 @@
-use Rattle.std.proofs.Common.{◌≡◌, ◌+◌, ◌-◌, ◌≤◌, true, List, arith, rules, sym, subst, ap, length, vec_len, w64}
+use Rattle.std.proofs.Common.{◌≡◌, ◌+◌, ◌-◌, ◌≤◌, true, List, arith, rules, sym, subst, ap, length, vec_len, w64, refl}
 use mir.Val.{SFits}
 use Rattle.std.specs.Prelude.{vec_capacity}
 use Rattle.std.proofs.lemmas.Int.{to_z-of_z}
 use Rattle.mc_journal.specs.declared.record.Removal.{Removal}
-use Rattle.mc_packet.specs.Choices.{is_known}
+use Rattle.mc_packet.specs.Choices.{is_known, nothing}
 use Rattle.mc_cache.specs.Cache.{count_of, ranges_of}
 use Rattle.mc_tracks.specs.Selection.{knows}
 use Rattle.mc_demux.specs.Selecting.{added_to}
@@ -55,6 +55,6 @@ returns-clause-ok c =
     let added = subst (λ (d : DemuxState). c.added_to-added.result ≡ added_to c.args.set d) (sym c.self.view_is) c.added_to-added.ensures in
     let fits : SFits w64 c.args.at = search rules in
     switches_now _ c.args.self.now c.args.by c.args.set c.args.at _ c.added_to-added.result c.waiting_after-self-inside.result c.lead_of.result c.in_ok-drops.drops c.as_slice.result.now
-    c.retrack.new.self c.trim.new.cache c.write_switch.new.journal.items c.trim.new.journal.items c.nothing-self-inside.result _
+    c.retrack.new.self c.trim.new.cache c.write_switch.new.journal.items c.trim.new.journal.items nothing _
     c.self.view_is c.in_ok-drops.ensures.cache c.in_ok-drops.ensures.ok c.as_slice.ensures c.write_switch.ensures.items c.trim.ensures.value
-    (to_z-of_z w64 c.args.at fits) added c.waiting_after-self-inside.ensures c.lead_of.ensures c.nothing-self-inside.ensures
+    (to_z-of_z w64 c.args.at fits) added c.waiting_after-self-inside.ensures c.lead_of.ensures refl

@@ -41,6 +41,9 @@ pub next_of : (film : Film) (d : DemuxState) (track : ℕ) → StandsFor film d 
 next_of film d track s =
     next-is film d.cache.limits d.set d.cache.current d.cache.others d.heads d.seeking d.waiting d.switch d.failure d.ended (reverse d.journal) track s.fits
 
+pub packet_is : (film : Film) (d : DemuxState) (track : ℕ) → StandsFor film d → next_in d.set d.heads track d.cache.current ≡ next film.packets (reverse d.journal) track
+packet_is film d track s = sym (next_of film d track s)
+
 pub front_is : (film : Film) (d : DemuxState) (track : ℕ) → StandsFor film d
     → option_map (λ (p : Packet). rank p.pos) (next_in d.set d.heads track d.cache.current) ≡ option_map at (next film.packets (reverse d.journal) track)
 front_is film d track s =

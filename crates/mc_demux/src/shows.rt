@@ -24,8 +24,8 @@ ghost use Rattle.mc_demux.specs.Marks.{AreAmong};
 ghost use Rattle.mc_demux.specs.Tied.{told_marks};
 ghost use Rattle.mc_demux.specs.Shows.{GivesNone, goal_of, is_finish, is_idle_job, pending_goal};
 
-/// A reader's next packet stands at the place of the next one that the journal leaves there
-/// (`front`), and is of the reader's track (`own`). The selected tracks are those that the journal
+/// A reader's next packet is the film's that the journal leaves there, payload and all (`packet`), so
+/// that it stands at its place (`front`), and is of the reader's track (`own`). The selected tracks are those that the journal
 /// selects (`set`), and the target of a seek that was sent is the one that is pending there
 /// (`pending`). A read of a selected track would tell an end, a failure or want of memory exactly
 /// where by the journal no packet of it is next, and its end can be told or a read failed (`tells`).

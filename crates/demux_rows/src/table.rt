@@ -14,7 +14,9 @@ use std::alloc::Global;
 /// A demuxer and the film that it reads.
 #[derive(Drop)]
 pub struct Held {
+    /// The demuxer.
     pub demux: Demux,
+    /// The film's packets, in file order.
     pub film: Packets,
 }
 

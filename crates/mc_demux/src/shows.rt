@@ -25,23 +25,30 @@ ghost use Rattle.mc_demux.specs.Tied.{told_marks};
 ghost use Rattle.mc_demux.specs.Shows.{GivesNone, goal_of, is_finish, is_idle_job, pending_goal};
 
 /// A reader's next packet is the film's that the journal leaves there, payload and all (`packet`), so
-/// that it stands at its place (`front`), and is of the reader's track (`own`). The selected tracks are those that the journal
-/// selects (`set`), and the target of a seek that was sent is the one that is pending there
-/// (`pending`). A read of a selected track would tell an end, a failure or want of memory exactly
-/// where by the journal no packet of it is next, and its end can be told or a read failed (`tells`).
+/// that it stands at its place (`front`), and is of the reader's track (`own`). The selected tracks are
+/// those that the journal selects (`set`), and the target of a seek that was sent is the one that is
+/// pending there (`pending`). A read of a selected track would tell an end, a failure or want of
+/// memory exactly where by the journal no packet of it is next, and its end can be told or a read
+/// failed (`tells`).
 /// Where no packet of a track is next, neither the record of an answer that gives none nor the drops
 /// behind it bring one (`quiet`). Nothing is to be done exactly where by the journal the demuxer is
 /// idle (`idle`).
 pub fn shown_readers()
+    // what is next for a reader
+    ensures packet { (film : Film) (d : DemuxState) (track : ℕ) → StandsFor film d
+        → next_in d.set d.heads track d.cache.current
+        ≡ next film.packets (reverse d.journal) track }
     ensures front { (film : Film) (d : DemuxState) (track : ℕ) → StandsFor film d
         → option_map (λ (p : Packet). rank p.pos) (next_in d.set d.heads track d.cache.current)
         ≡ option_map at (next film.packets (reverse d.journal) track) }
     ensures own { (d : DemuxState) (track : ℕ) → IsDemux d
         → IfSome (next_in d.set d.heads track d.cache.current) (λ p. p.track ≡ track) }
+    // which tracks are selected, and where a seek goes that was sent
     ensures set { (film : Film) (d : DemuxState) → StandsFor film d
         → d.set ≡ selected (reverse d.journal) }
     ensures pending { (film : Film) (d : DemuxState) → StandsFor film d
         → option_map goal_of d.seeking ≡ pending_goal (reverse d.journal) }
+    // what a read would tell, and what it leaves
     ensures tells { (film : Film) (d : DemuxState) (track : ℕ) → StandsFor film d
         → (has d.set track && is_finish (peek_at (reading_of track d)))
         ≡ can_tell film (reverse d.journal) track }
@@ -49,6 +56,7 @@ pub fn shown_readers()
         → StandsFor film d → StandsFor film e → Wrote by own d.journal e.journal → GivesNone own
         → next_in d.set d.heads track d.cache.current ≡ None
         → next_in e.set e.heads track e.cache.current ≡ None }
+    // whether anything is to be done
     ensures idle { (film : Film) (d : DemuxState) → IsDemux d → StandsFor film d
         → is_idle_job (job_of d) ≡ is_idle film.packets d.cache.limits (reverse d.journal) }
 {}

@@ -18,3 +18,5 @@ pub mod Full
 pub mod Settled
 pub mod Knowing
 pub mod Loading
+pub mod Worked
+pub mod Wrong

@@ -12,3 +12,5 @@ pub mod Plans
 pub mod Laws
 pub mod Orders
 pub mod Knowing
+pub mod Worked
+pub mod Wrong

@@ -20,9 +20,11 @@
 
 mod callers;
 mod deed;
+mod journals;
 mod law;
 mod record;
 
 pub use deed::Deed;
+pub use journals::{worked_journals, wrong_journals};
 pub use law::{allowed_journals, known_tracks, waiting_requests};
 pub use record::{Answer, CoreJournal, CoreRecord, Order, Outcome};

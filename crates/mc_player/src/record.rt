@@ -4,7 +4,6 @@ use mc_props::Facts;
 use mc_ring::Event;
 use mc_tracks::TrackList;
 use mc_value::Text;
-use sqlite_items::Items;
 
 /// The answer to a client's call.
 #[derive(Debug, Drop)]
@@ -172,4 +171,4 @@ pub enum CoreRecord {
 }
 
 /// The records of a player, the oldest first.
-pub type CoreJournal = Items<CoreRecord>;
+pub type CoreJournal = Vec<CoreRecord>;

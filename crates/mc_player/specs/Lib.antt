@@ -1,0 +1,16 @@
+pub mod Callers
+pub mod Lives
+pub mod Deeds
+pub mod Journals
+pub mod Facts
+pub mod Effects
+pub mod Rules
+pub mod Waiting
+pub mod Rings
+pub mod Tickets
+pub mod Plans
+pub mod Laws
+pub mod Orders
+pub mod Knowing
+pub mod Worked
+pub mod Wrong

@@ -33,7 +33,13 @@ fn read<R: Print + Clock>(rt: &R, alloc: Global, count: u32, is_timed: bool) -> 
     tell(rt, "lines parsed", parsed, start, is_timed)?;
     let start = Instant::now(rt)?;
     let values = work::read_values(alloc, count)?;
-    tell(rt, "lines read by serde_json alone", values, start, is_timed)
+    tell(
+        rt,
+        "lines read by serde_json alone",
+        values,
+        start,
+        is_timed,
+    )
 }
 
 fn write<R: Print + Clock>(rt: &R, alloc: Global, count: u32, is_timed: bool) -> io::Result<()> {

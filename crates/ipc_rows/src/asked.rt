@@ -6,11 +6,7 @@ use std::alloc::{AllocError, Global};
 use std::fmt::Write;
 
 /// What a text asks for.
-pub fn call_parse(
-    alloc: Global,
-    arguments: &[Json<'_>],
-    out: &mut String,
-) -> Result<(), RowError> {
+pub fn call_parse(alloc: Global, arguments: &[Json<'_>], out: &mut String) -> Result<(), RowError> {
     parse(alloc, text_in(one(arguments)?)?.as_bytes(), out)
 }
 
@@ -78,7 +74,12 @@ fn push_core(alloc: Global, out: &mut String, call: &Call) -> Result<(), AllocEr
             push_value(alloc, out, value)
         }
         Call::Observe { id, name, format } => {
-            write!(out, "observe {id} {} {}", name.as_str(), format_name(*format))
+            write!(
+                out,
+                "observe {id} {} {}",
+                name.as_str(),
+                format_name(*format)
+            )
         }
         Call::Unobserve { id } => write!(out, "unobserve {id}"),
         Call::Event { .. } | Call::Poll | Call::Abort { .. } => out.push_str("no line asks for it"),

@@ -40,12 +40,7 @@ pub fn feed_many(
     feed(alloc, cut, piece.as_slice(), out)
 }
 
-fn feed(
-    alloc: Global,
-    cut: &mut LineCut,
-    piece: &[u8],
-    out: &mut String,
-) -> Result<(), RowError> {
+fn feed(alloc: Global, cut: &mut LineCut, piece: &[u8], out: &mut String) -> Result<(), RowError> {
     let fed = cut.feed(alloc, piece)?;
     for line in fed.lines.as_slice() {
         push_line(out, line)?;

@@ -5,11 +5,7 @@ use rows_values::value_in;
 use std::alloc::Global;
 
 /// The line of a reply: a `request_id`, an error and, where there is one, a value.
-pub fn call_reply(
-    alloc: Global,
-    arguments: &[Json<'_>],
-    out: &mut String,
-) -> Result<(), RowError> {
+pub fn call_reply(alloc: Global, arguments: &[Json<'_>], out: &mut String) -> Result<(), RowError> {
     match arguments {
         [id, error] => {
             let line = reply_line(alloc, id_in(id)?, error_in(error)?, None)?;
@@ -33,11 +29,7 @@ fn error_in(argument: &Json<'_>) -> Result<i32, RowError> {
 }
 
 /// The line of an event.
-pub fn call_event(
-    alloc: Global,
-    arguments: &[Json<'_>],
-    out: &mut String,
-) -> Result<(), RowError> {
+pub fn call_event(alloc: Global, arguments: &[Json<'_>], out: &mut String) -> Result<(), RowError> {
     let event = event_in(alloc, one(arguments)?)?;
     if !has_line(&event) {
         return Ok(out.push_str("no line")?);

@@ -1,5 +1,5 @@
-//! Times lines of a JSON session: parsed, and read by `serde_json` alone; replies and events written;
-//! an input cut into lines. Without a word there are a few, and what came of it is printed without
+//! Times lines of a JSON session: parsed, and read by `serde_json` alone; replies and events
+//! written; an input cut into lines. Without a word there are a few, and what came of it is printed without
 //! times, the same at every run.
 #![tactic(auto)]
 

@@ -1,5 +1,5 @@
-//! Makes the calls of `mc_ipc` that its rows name, and prints what each answered. One `LineCut` lives
-//! from row to row; `new` makes another. The rows stand in `stdin`, and what they must answer in
+//! Makes the calls of `mc_ipc` that its rows name, and prints what each answered. One `LineCut`
+//! lives from row to row; `new` makes another. The rows stand in `stdin`, and what they must answer in
 //! `stdout`.
 #![tactic(auto)]
 

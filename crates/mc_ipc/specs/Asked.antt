@@ -64,7 +64,8 @@ set_call id _ = None
 -- the arguments are the observer's number and a name
 abbrev pub observe_call : ℕ → List Data → Option IpcCall
 observe_call id (d ∷ e ∷ []) =
-    option_and_then (λ n. option_map (λ name. Core id (Observe n name format.Node)) (as_str e)) (number_in d)
+    option_and_then (λ n. option_map (λ name. Core id (Observe n name format.Node)) (as_str e))
+    (number_in d)
 observe_call id _ = None
 
 -- the one argument is the observers' number
@@ -99,8 +100,8 @@ abbrev pub call_of : ℕ → List Data → Option IpcCall
 call_of id [] = None
 call_of id (d ∷ ds) = option_and_then (λ word. call_by id word ds (d ∷ ds)) (as_str d)
 
--- the number that a request bears: 0 where it has none; `None` where it is no integer from 0 that an
--- `i64` holds
+-- the number that a request bears: 0 where it has none; `None` where it is no integer from 0 that
+-- an `i64` holds
 abbrev pub id_given : Option Data → Option ℕ
 id_given None = Some 0
 id_given (Some d) = number_in d

@@ -70,7 +70,8 @@ given c piece = if c.is_long then [] else lines_of (c.held ++ piece)
 -- the number of the line that is too long, where there is one
 abbrev pub long_by : CutState → List ℕ → Option ℕ
 long_by c piece =
-    if c.is_long then Some c.number else option_map (numbered c.number) (long_place (c.held ++ piece))
+    if c.is_long then Some c.number else
+    option_map (numbered c.number) (long_place (c.held ++ piece))
 
 -- the line at a place is too long; else the last part is open
 abbrev pub left_at : ℕ → List (List ℕ) → Option ℕ → CutState
@@ -84,7 +85,8 @@ left_at first ps None = record {
 -- what a piece leaves
 abbrev pub after : CutState → List ℕ → CutState
 after c piece =
-    if c.is_long then c else left_at c.number (parts (c.held ++ piece)) (long_place (c.held ++ piece))
+    if c.is_long then c else
+    left_at c.number (parts (c.held ++ piece)) (long_place (c.held ++ piece))
 
 -- what pieces leave, one after another
 abbrev pub after_all : CutState → List (List ℕ) → CutState
@@ -96,11 +98,12 @@ abbrev pub given_by_all : CutState → List (List ℕ) → List (List ℕ)
 given_by_all c [] = []
 given_by_all c (p ∷ ps) = given c p ++ given_by_all (after c p) ps
 
--- the pieces together gave the lines of the whole input, and a further piece tells of its first line
--- that is too long
+-- the pieces together gave the lines of the whole input, and a further piece tells of its first
+-- line that is too long
 pub record CutsAsWhole (c : CutState) (pieces : List (List ℕ)) : Type 0 where
   pub lines : given_by_all c pieces ≡ lines_of (concat pieces)
-  pub long : (piece : List ℕ) → long_by (after_all c pieces) piece ≡ long_of (concat pieces ++ piece)
+  pub long : (piece : List ℕ)
+      → long_by (after_all c pieces) piece ≡ long_of (concat pieces ++ piece)
 
 -- so it is for every list of pieces: it makes no difference where an input is cut
 abbrev pub CutsAnywhere : CutState → Type 0

@@ -61,7 +61,8 @@ reply_data e (Some v) = if int_eq e (pos 0) then (codes "data", data_of v) ∷ [
 
 abbrev pub reply_of : ℕ → ℤ → Option Value → Data
 reply_of id e v =
-    object_of ((codes "error", string (error_word e)) ∷ (codes "request_id", number (unsigned id)) ∷ reply_data e v)
+    object_of ((codes "error", string (error_word e))
+    ∷ (codes "request_id", number (unsigned id)) ∷ reply_data e v)
 
 -- Events
 

@@ -32,8 +32,8 @@ pub enum IpcCall {
     Skip,
 }
 
-/// What a line asks for, without its LF, by the table of `specs/Asked.antt`. A call is a JSON object
-/// whose `command` is an array that begins with a string, after mpv's manual ("JSON IPC"). Its
+/// What a line asks for, without its LF, by the table of `specs/Asked.antt`. A call is a JSON
+/// object whose `command` is an array that begins with a string, after mpv's manual ("JSON IPC"). Its
 /// `request_id` is an integer from 0 to 2^63 - 1, and other keys are passed over. Every other line
 /// is `Bad`, but an empty one, which is `Skip`.
 pub fn parse_line(alloc: Global, line: &[u8]) -> Result<IpcCall, NoMemory>

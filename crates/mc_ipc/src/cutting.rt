@@ -21,7 +21,7 @@ const LONGEST: usize = 65_536;
 /// What a piece of an input gave.
 #[derive(Debug, Drop)]
 pub struct Fed {
-    /// The lines that the piece made whole, in order, each without its LF. An empty line is one too.
+    /// The lines that the piece made whole, in order, each without its LF; some may be empty.
     pub lines: Lines,
     /// The number, from 1, of the first line that is too long: it has 65,536 octets, and a further
     /// one came that is no LF. 2^32 - 1 stands for each greater number. No line follows it.
@@ -58,8 +58,8 @@ impl Model for LineCut {
 impl LineCut {
     /// Nothing of an input has come yet.
     ///
-    /// Of every list of pieces that follow: the lines that they give are those of the pieces joined,
-    /// and the number of the first line that is too long is told as of the whole. So it makes no
+    /// Of every list of pieces that follow: the lines that they give are those of the pieces
+    /// joined, and the number of the first line that is too long is told as of the whole. So it makes no
     /// difference where an input is cut.
     pub fn new(alloc: Global) -> LineCut
         ensures empty { result ≡ new_cut }
@@ -73,8 +73,8 @@ impl LineCut {
     }
 
     /// Takes the next piece of the input, of any length, and gives the lines that it makes whole.
-    /// From the first line on that has more than 65,536 octets it gives no line, and each call tells
-    /// that line's number. Where there is no memory nothing changes, so that the piece can be fed
+    /// From the first line on that has more than 65,536 octets it gives no line, and each call
+    /// tells that line's number. Where there is no memory nothing changes, so that the piece can be fed
     /// again.
     pub fn feed(&mut self, alloc: Global, piece: &[u8]) -> Result<Fed, NoMemory>
         ensures lines { IfOk result (λ fed. fed.lines ≡ given self.old piece.now) }

@@ -1,7 +1,8 @@
-//! A session in the manner of mpv's JSON IPC, apart from the socket and the player. It cuts an input
-//! that comes in pieces into lines (`LineCut`), reads what a line asks for (`parse_line`), and writes
-//! replies and events as lines (`reply_line`, `event_line`). The definitions are those of
+//! A session in the manner of mpv's JSON IPC, apart from the socket and the player. It cuts an
+//! input that comes in pieces into lines (`LineCut`), reads what a line asks for (`parse_line`), and
+//! writes replies and events as lines (`reply_line`, `event_line`). The definitions are those of
 //! `specs/Lines.antt`, `specs/Asked.antt` and `specs/Written.antt`, over the JSON of `serde_json`.
+//! The rows of `ipc_rows` begin with this session:
 //!
 //! ```text
 //! let mut cut = LineCut::new(alloc);

@@ -31,8 +31,8 @@ pub fn reply_line(
     line_of(alloc, &Json::from(members))
 }
 
-/// The line of an event, with its LF: an object with the event's name in mpv's manual as `event` and
-/// with what it carries, its keys in byte order. `EndFile` has its `reason` as a word, `Message` its
+/// The line of an event, with its LF: an object with the event's name in mpv's manual as `event`
+/// and with what it carries, its keys in byte order. `EndFile` has its `reason` as a word, `Message` its
 /// words as `args`, and `Change` its `id`, its `name` and, but in the format `None`, its value as
 /// `data`. No event and a reply have no line.
 pub fn event_line(alloc: Global, event: &Event) -> Result<Text, NoMemory>
@@ -78,7 +78,8 @@ fn put_value(
     value: Option<&Value>,
 ) -> Result<(), NoMemory>
     ensures { OnOk result (members_view members.new.entries
-        ≡ put_all (reply_data error (option_copied value.entry)) (members_view members.old.entries)) }
+        ≡ put_all (reply_data error (option_copied value.entry))
+        (members_view members.old.entries)) }
 {
     match value {
         Some(value) if error == 0 => put(members, alloc, "data", data_of(alloc, value)?),

@@ -1,0 +1,6 @@
+pub mod Agreeing
+pub mod Going
+pub mod Lists
+pub mod Masks
+pub mod ReadingLemmas
+pub mod Watching

@@ -1,0 +1,11 @@
+pub mod Answers
+pub mod Fields
+pub mod Law
+pub mod Lines
+pub mod Reading
+pub mod Records
+pub mod Steps
+pub mod Table
+pub mod Telling
+pub mod Text
+pub mod Watches

@@ -1,0 +1,4 @@
+pub mod Chosen
+pub mod Clustered
+pub mod Dumped
+pub mod Writes

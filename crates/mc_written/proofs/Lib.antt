@@ -1,0 +1,12 @@
+pub mod Lower
+pub mod Standing
+pub mod Lengths
+pub mod Walking
+pub mod Blocks
+pub mod Clusters
+pub mod Children
+pub mod Entries
+pub mod Tracks
+pub mod Opening
+pub mod Whole
+pub mod Fronts

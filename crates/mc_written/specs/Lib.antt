@@ -1,0 +1,4 @@
+pub mod Elements
+pub mod Clusters
+pub mod Fronts
+pub mod Films

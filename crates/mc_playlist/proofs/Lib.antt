@@ -1,4 +1,5 @@
 pub mod Agreeing
+pub mod Entries
 pub mod Going
 pub mod Lists
 pub mod Masks

@@ -15,7 +15,7 @@ use Rattle.mc_playlist.specs.declared.steps.ListError.TheVariants as errors
 
 -- ---- names
 
-place_in : (i j n m : ℕ) → i < n → j ≤ n → m + 1 ≡ n → place_without i j ≤ m
+pub place_in : (i j n m : ℕ) → i < n → j ≤ n → m + 1 ≡ n → place_without i j ≤ m
 place_in i j n m lt le e = by_test (nat_lt i j) refl
   where
     by_test : (b : Bool) → nat_lt i j ≡ b → cond b (j - 1) j ≤ m

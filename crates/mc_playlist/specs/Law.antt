@@ -1,9 +1,10 @@
--- The law over every list of steps.
-use Rattle.std.specs.Prelude.{◌≡◌, ℕ, Bool, true, false, not, List, [], ◌∷◌, map, filter, fold, Result, Ok, Err}
+-- The law over every list of steps, and what a step keeps.
+use Rattle.std.specs.Prelude.{◌≡◌, ℕ, Bool, true, false, not, List, [], ◌∷◌, map, filter, fold, slice_get, Option, Some, None, Result, Ok, Err}
 use Rattle.mc_playlist.specs.Records.{left_by}
 use Rattle.mc_playlist.specs.Steps.{IsList, Steps, stepped}
 use Rattle.mc_playlist.specs.declared.facts.ListFacts.{ListFacts}
 use Rattle.mc_playlist.specs.declared.steps.ListStep.{ListStep}
+use Rattle.mc_playlist.specs.declared.steps.ListStep.TheVariants.{Add, Remove, Move, Clear, Next, Prev, Jump, Played}
 use Rattle.mc_playlist.specs.declared.steps.ListError.{ListError}
 use Rattle.mc_playlist.specs.declared.steps.ListError.TheVariants.{NoMemory}
 
@@ -33,3 +34,24 @@ after f step = left_by (stepped step f) f
 abbrev pub KeepsLaw : ListFacts → Type 0
 KeepsLaw f = (ds : List Done) (f' : ListFacts) → Runs f ds f'
     → (f' ≡ fold after f (steps_of ds)) × IsList f'
+
+-- ---- the entry of the list's place
+
+abbrev pub entry_at : Option ℕ → List (List ℕ) → Option (List ℕ)
+entry_at None names = None
+entry_at (Some p) names = slice_get names p
+
+abbrev pub entry_now : ListFacts → Option (List ℕ)
+entry_now f = entry_at f.pos f.names
+
+-- a step that changes the names leaves the list's place with its entry, unless that is taken out;
+-- any other step changes no name
+abbrev pub KeepsEntry : ListStep → ListFacts → ListFacts → Type 0
+KeepsEntry (Add name) f f' = entry_now f' ≡ entry_now f
+KeepsEntry (Remove i) f f' = (f.pos ≡ Some i → ⊥) → entry_now f' ≡ entry_now f
+KeepsEntry (Move i j) f f' = entry_now f' ≡ entry_now f
+KeepsEntry Clear f f' = entry_now f' ≡ entry_now f
+KeepsEntry Next f f' = f'.names ≡ f.names
+KeepsEntry Prev f f' = f'.names ≡ f.names
+KeepsEntry (Jump i) f f' = f'.names ≡ f.names
+KeepsEntry Played f f' = f'.names ≡ f.names

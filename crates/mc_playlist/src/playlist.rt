@@ -1,6 +1,6 @@
 ghost use Rattle.std.specs.Prelude.{◌≡◌, ◌<◌, IfSome, Ok, Some};
 ghost use Rattle.mc_playlist.specs.Fields.{AgreeOutside, act_fields, step_fields};
-ghost use Rattle.mc_playlist.specs.Law.{KeepsLaw};
+ghost use Rattle.mc_playlist.specs.Law.{KeepsEntry, KeepsLaw};
 ghost use Rattle.mc_playlist.specs.Records.{Leaves, acted, first_played};
 ghost use Rattle.mc_playlist.specs.Steps.{GoesTo, IsList, Steps, count, empty_list, played};
 ghost use Rattle.mc_playlist.specs.declared.steps.ListError.TheVariants.{NoEntry};
@@ -41,8 +41,8 @@ impl Model for Playlist {
 impl Playlist {
     /// An empty list.
     ///
-    /// Of all steps that follow, with their answers: the list is then what each in turn makes of the
-    /// one before it, a refused one and one that found no memory nothing, and so it has at most
+    /// Of all steps that follow, with their answers: the list is then what each in turn makes of
+    /// the one before it, a refused one and one that found no memory nothing, and so it has at most
     /// 10,000 entries, and its place is that of one.
     pub fn new(alloc: Global) -> Playlist
         ensures empty { result ≡ empty_list }
@@ -63,13 +63,17 @@ impl Playlist {
 
     /// Does a step, as `ListStep` says. `NoEntry` where no entry is at the place that is wanted: of
     /// `Move` the first place is looked at first, and it may be put before the number of entries,
-    /// which is the end; `Prev` and `Played` want place 0 where the list has no place, and `Prev` at
-    /// place 0 too. `TooMany` exactly at an `Add` to 10,000 entries. Only an `Add` takes memory.
-    /// After a refusal nothing changed.
+    /// which is the end; `Prev` and `Played` want place 0 where the list has no place, and `Prev`
+    /// at place 0 too. `TooMany` exactly at an `Add` to 10,000 entries. Only an `Add` takes memory.
+    /// After a refusal nothing changed; else only the fields that `ListStep::fields` tells did. The
+    /// list's place stays with its entry where other entries come, go or move.
     pub fn step(&mut self, step: ListStep) -> Result<(), ListError>
         ensures value { Steps step self.old self.new result }
         ensures fields { AgreeOutside (step_fields step) self.old self.new }
+        ensures entry { KeepsEntry step self.old self.new }
     {
+        // For the proof: the list's place is that of an entry.
+        let _facts = self.facts();
         self.do_step(step)
     }
 
@@ -88,11 +92,11 @@ impl Playlist {
         }
     }
 
-    /// Does what a line of a script asks of the list, where the table has the properties that may be
-    /// watched. `Play` notes that the entry at the list's place was played, and `PlayAll` that one
-    /// film was, from the first entry where the list has no place; both are refused as `Played`.
-    /// `Watch` changes nothing, and is `NotFound` exactly where the table has no such name. After a
-    /// refusal nothing changed.
+    /// Does what a line of a script asks of the list, where the table has the properties that may
+    /// be watched. `Play` notes that the entry at the list's place was played, and `PlayAll` that
+    /// one film was, from the first entry where the list has no place; both are refused as
+    /// `Played`. `Watch` changes nothing, and is `NotFound` exactly where the table has no such
+    /// name. After a refusal nothing changed.
     pub fn act<F: ListReads<M>, M: ListMeaning>(
         &mut self,
         table: &ListTable<F, M>,

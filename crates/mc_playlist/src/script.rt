@@ -15,8 +15,8 @@ const MOST_OCTETS: usize = 16_777_216;
 
 /// What the lines of a list's script ask for: a text in UTF-8 of at most 16,777,216 octets. Its
 /// lines and words are those of a script that `parse_script` of `mc_script` reads: an LF ends a
-/// line, and one CR at a line's end is dropped; a line without a word is skipped, and so is one that
-/// begins with `#`. The lines are those that `ListAct` and `ListStep` name. A place is decimal
+/// line, and one CR at a line's end is dropped; a line without a word is skipped, and so is one
+/// that begins with `#`. The lines are those that `ListAct` and `ListStep` name. A place is decimal
 /// digits without a needless 0 in front, below 2^32; the NAME of an `add` is not empty and does not
 /// begin with a dash.
 ///

@@ -179,14 +179,14 @@ fn push_film(
     }
 }
 
-/// What is printed of a list's script: of each record the film that it plays, or `refused`, and then
-/// each watched property that shows something else than was last told, or that never was told. The
-/// runs are those of the films that are played, in order; a record beyond them prints no film.
+/// What is printed of a list's script: of each record the film that it plays, or `refused`, and
+/// then each watched property that shows something else than was last told, or that never was told.
+/// The runs are those of the films that are played, in order; a record beyond them prints no film.
 ///
 /// The lines are `file INDEX NAME` and behind it the transcript, `file INDEX NAME refused CAUSE`,
-/// `refused`, and `change NAME JSON`, with `unavailable` in the place of the JSON where the property
-/// has no value. Names are printed as JSON where they are empty or have a character outside `!` to
-/// `~`, a `"`, a `\` or a `#`.
+/// `refused`, and `change NAME JSON`, with `unavailable` in the place of the JSON where the
+/// property has no value. Names are printed as JSON where they are empty or have a character
+/// outside `!` to `~`, a `"`, a `\` or a `#`.
 pub fn list_text<F: ListReads<M>, M: ListMeaning>(
     alloc: Global,
     table: &ListTable<F, M>,

@@ -54,9 +54,9 @@ impl Watches {
         self.items.as_slice()
     }
 
-    /// Watches the property of a name from now on, behind the others. A name that is watched already
-    /// keeps its place and what it was last given. `NotFound` exactly where the table has no such
-    /// name. After a refusal nothing changed. What was current for facts stays so.
+    /// Watches the property of a name from now on, behind the others. A name that is watched
+    /// already keeps its place and what it was last given. `NotFound` exactly where the table has
+    /// no such name. After a refusal nothing changed. What was current for facts stays so.
     pub fn watch<F: ListReads<M>, M: ListMeaning>(
         &mut self,
         table: &ListTable<F, M>,

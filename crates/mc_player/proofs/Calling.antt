@@ -1,5 +1,5 @@
 -- What calls that are no requests are answered, in the words of records.
-use Rattle.std.proofs.Common.{◌≡◌, ℕ, Bool, true, false, not, List, [], ◌∷◌, length, Option, Some, None, refl, ap, ◌∙◌}
+use Rattle.std.proofs.Common.{ℕ, not, List, [], ◌∷◌, length, Option, Some, None, ap, ◌∙◌}
 use Rattle.std.specs.Prelude.{filter, nat_le, IfSome, IsSomeAnd}
 use Rattle.mc_dispatch.specs.declared.call.Call.{Call}
 use Rattle.mc_dispatch.specs.declared.call.Call.TheVariants as call

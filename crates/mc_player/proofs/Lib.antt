@@ -16,6 +16,8 @@ pub mod Telling
 pub mod Room
 pub mod Full
 pub mod Settled
+pub mod Living
+pub mod Calling
 pub mod Knowing
 pub mod Loading
 pub mod Worked

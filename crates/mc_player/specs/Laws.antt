@@ -1,7 +1,11 @@
 -- What holds of every journal whose records were allowed.
-use Rattle.std.specs.Prelude.{◌≡◌, ℕ, ℤ, ◌+◌, ◌≤◌, ◌⊎◌, Bool, true, false, not, ◌||◌, List, [], ◌∷◌, ◌++◌, length, drop, filter, IfSome, IsSomeAnd, Option, ⊤}
+use Rattle.std.specs.Prelude.{◌≡◌, ℕ, ℤ, ◌+◌, ◌≤◌, ◌⊎◌, Bool, true, false, not, ◌||◌, List, [], ◌∷◌, ◌++◌, length, drop, filter, IfSome, IsSomeAnd, Option, ⊤, ◌==◌, nat_le, is_some}
+use Rattle.std.specs.Option.{option_map}
+use Rattle.mc_dispatch.specs.declared.request.ClientNo.{ClientNo}
+use Rattle.mc_dispatch.specs.Queue.{is_named}
+use Rattle.mc_client.specs.Client.{can_switch}
 use Rattle.std.specs.Bool.{MatchBool}
-use Rattle.std.specs.List.{AllByRecursion}
+use Rattle.std.specs.List.{AllByRecursion, list_any}
 use Rattle.mc_value.specs.declared.value.Value.{Value}
 use Rattle.mc_dispatch.specs.declared.call.Call.{Call}
 use Rattle.mc_dispatch.specs.declared.call.Call.TheVariants as call
@@ -16,12 +20,12 @@ use Rattle.mc_player.specs.declared.record.Answer.TheVariants as answer
 use Rattle.mc_player.specs.declared.record.CoreRecord.{CoreRecord}
 use Rattle.mc_player.specs.declared.record.CoreRecord.TheVariants.{Called, Wrote, Ordered, Pushed, Replied}
 use Rattle.mc_player.specs.Deeds.{invalid_parameter, queue_full, reply_of}
-use Rattle.mc_player.specs.Facts.{facts_of}
-use Rattle.mc_player.specs.Journals.{due, queued, worked}
-use Rattle.mc_player.specs.Lives.{Table, now}
+use Rattle.mc_player.specs.Facts.{facts_of, life_of}
+use Rattle.mc_player.specs.Journals.{due, queued, worked, clients, name_of}
+use Rattle.mc_player.specs.Lives.{Table, now, Life, bears}
 use Rattle.mc_player.specs.Plans.{last_wrote, plan, told}
 use Rattle.mc_player.specs.Rings.{accepted, choked, full, has, held, off, polled, reserved, size_of, unanswered, watches}
-use Rattle.mc_player.specs.Rules.{IsAllowed, IsAnswered as AnsweredBy, is_bad, is_request}
+use Rattle.mc_player.specs.Rules.{IsAllowed, IsAnswered as AnsweredBy, is_bad, is_request, done_if}
 use Rattle.mc_player.specs.Tickets.{IsPart, asked, asks, dropped, holds, is_at_work, promised, replied, request_of, since, taken, tickets, took, used}
 
 -- it holds of every allowed journal, for every table of properties
@@ -103,6 +107,20 @@ ChangeStands t (Called by c ticket call.Poll (answer.Event (event.Change id name
     + 1 ≡ unsettled t (facts_of t h) (watches t c.0 h)
 ChangeStands t r h = ⊤
 
+-- ---- other calls
+
+-- an observer is refused where there are 1,000, and the number of an event that can't be switched
+-- off; the answer to the end of observers and to an abort is how many there were
+abbrev pub CallStands : Table → CoreRecord → List CoreRecord → Type 0
+CallStands t (Called by c ticket (call.Observe id name format) a) h =
+    a ≡ done_if (not (nat_le 1000 (length (watches t c.0 h))))
+CallStands t (Called by c ticket (call.Unobserve id) a) h =
+    a ≡ answer.Removed (length (filter (bears id) (watches t c.0 h)))
+CallStands t (Called by c ticket (call.Event n on) a) h = a ≡ done_if (can_switch n)
+CallStands t (Called by c ticket (call.Abort id) a) h =
+    a ≡ answer.Removed (length (filter (is_named c id) (queued h)))
+CallStands t r h = ⊤
+
 -- ---- replies
 
 -- a reply is the first of its ticket, to a client that lives and asked, behind the taking of its
@@ -161,3 +179,13 @@ WholeBefore t r h = told h ≡ plan t h
 abbrev pub WriteStands : Table → CoreRecord → List CoreRecord → Type 0
 WriteStands t (Wrote by mask f) h = (f ≡ facts_of t h) × AgreeOutside mask f (last_wrote h)
 WriteStands t r h = ⊤
+
+-- ---- clients, of any journal at all
+
+abbrev pub has_number : ℕ → ClientNo → Bool
+has_number c d = d.0 == c
+
+-- the clients in order of creation are those that live, each under the name that it came with
+abbrev pub AreListed : Table → List CoreRecord → Type 0
+AreListed t h = (c : ℕ) → (is_some (life_of t c h) ≡ list_any (has_number c) (clients h))
+    × (option_map (λ (l : Life). l.name) (life_of t c h) ≡ name_of c h)

@@ -1,8 +1,10 @@
 //! What holds of every journal of a player whose records were allowed: laws on lists, of which the
 //! calls of a player's core owe no more than that each record that they write may come next.
-ghost use Rattle.std.specs.Prelude.{ℕ};
+ghost use Rattle.std.specs.Prelude.{ℕ, List};
+ghost use Rattle.mc_player.specs.declared.record.CoreRecord.{CoreRecord};
 ghost use Rattle.mc_player.specs.Knowing.{KnowsTracks};
-ghost use Rattle.mc_player.specs.Laws.{AbortCounts, AbortEnds, Always, AtEach, ChangeStands, Each, FullTold, HasFate, IsFifo, IsInOrder, IsUnderWay, PollStands, Replies, ReplyAnswers, WholeBefore, WriteStands};
+ghost use Rattle.mc_player.specs.Laws.{AbortCounts, AbortEnds, Always, AreListed, AtEach, CallStands, ChangeStands, Each, FullTold, HasFate, IsFifo, IsInOrder, IsUnderWay, PollStands, Replies, ReplyAnswers, WholeBefore, WriteStands};
+ghost use Rattle.mc_player.specs.Lives.{Table};
 ghost use Rattle.mc_player.specs.Orders.{LoadsOnce};
 ghost use Rattle.mc_player.specs.Waiting.{Waits};
 
@@ -18,6 +20,8 @@ pub fn allowed_journals()
     ensures full { Always (λ t h. Each FullTold h) }
     ensures settled { Always (λ t h. Each (PollStands t) h) }
     ensures changes { Always (λ t h. Each (ChangeStands t) h) }
+    // Calls that are no requests: each is answered at once.
+    ensures calls { Always (λ t h. Each (CallStands t) h) }
     // Requests: a reply is the first of its ticket; each request waits, is worked, replied to or
     // gone; its reply has its number and kind; an abort is followed by its replies.
     ensures replies { Always (λ t h. Each Replies h) }
@@ -39,6 +43,12 @@ pub fn allowed_journals()
 pub fn known_tracks()
     ensures known { Always KnowsTracks }
     ensures loaded { Always (λ t h. LoadsOnce h) }
+{}
+
+/// Of any journal at all: the clients in order of creation are those that live, each under the name
+/// that it came with.
+pub fn listed_clients()
+    ensures { (t : Table) (h : List CoreRecord) → AreListed t h }
 {}
 
 /// Each place that a client has set aside for a reply is that of a request that waits.

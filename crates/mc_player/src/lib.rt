@@ -26,5 +26,5 @@ mod record;
 
 pub use deed::Deed;
 pub use journals::{worked_journals, wrong_journals};
-pub use law::{allowed_journals, known_tracks, waiting_requests};
+pub use law::{allowed_journals, known_tracks, listed_clients, waiting_requests};
 pub use record::{Answer, CoreJournal, CoreRecord, Order, Outcome};

@@ -1,5 +1,6 @@
 use Rattle.mc_player.proofs.Aborting.{abort_counts, abort_ends}
 use Rattle.mc_player.proofs.Answering.{answered}
+use Rattle.mc_player.proofs.Calling.{calls_stand}
 use Rattle.mc_player.proofs.Full.{full_told}
 use Rattle.mc_player.proofs.Masks.{masked}
 use Rattle.mc_player.proofs.InOrder.{in_order}
@@ -47,3 +48,6 @@ returns-clause-worked c = whole_before
 
 pub returns-clause-masked : goal.returns-clause-masked
 returns-clause-masked c = masked
+
+pub returns-clause-calls : goal.returns-clause-calls
+returns-clause-calls c = calls_stand

@@ -82,7 +82,7 @@ pub fn cut(alloc: Global, count: u32) -> Result<u32, NoMemory> {
     for number in 0..count {
         cut.feed(alloc, line_at(number).as_bytes())?;
         let fed = cut.feed(alloc, b"\n")?;
-        lines = lines.saturating_add(fed.lines.len() as u32);
+        lines = lines.saturating_add(!fed.lines.is_empty() as u32);
     }
     Ok(lines)
 }

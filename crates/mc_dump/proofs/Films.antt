@@ -5,12 +5,12 @@ use Rattle.std.specs.Prelude.{Contains, find, is_some}
 use Rattle.std.specs.List.{AllByRecursion}
 use Rattle.mc_packet.specs.declared.packet.Packet.{Packet}
 use Rattle.mc_tracks.specs.declared.track.Track.{Track}
-use Rattle.mc_tracks.specs.TrackList.{numbered, is_known, is_readable, IsListed}
+use Rattle.mc_tracks.specs.TrackList.{numbered, is_known, is_readable, IsListed, HasNumbers}
 use Rattle.mc_walk.specs.Again.{CanBeAgain}
 use Rattle.mc_film.specs.Film.{FilmsAreAgain, FilmsHaveShape}
 use Rattle.mc_written.specs.Clusters.{CanBeEntered}
 use Rattle.mc_written.specs.Films.{film_text, written_film, CanBeWritten, FilmsReadBack}
-use Rattle.mc_written.specs.Fronts.{front_text, HasNumbers, CanBeListed}
+use Rattle.mc_written.specs.Fronts.{front_text, CanBeListed}
 use Rattle.mc_dump.specs.Clustered.{clusters_of, scale_for}
 use Rattle.mc_dump.specs.Dumped.{dumped_text, AreOfFilm, AreWritten, CanBeDumped, DumpsReadBack, ReadsBack}
 use Rattle.mc_dump.proofs.Scales.{Divides, IsHigh, scale_divides, each_high}

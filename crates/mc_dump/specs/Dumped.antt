@@ -5,11 +5,11 @@ use Rattle.mc_packet.specs.Contents.{contents}
 use Rattle.mc_packet.specs.Shape.{is_near}
 use Rattle.mc_packet.specs.declared.walk.Ending.TheVariants.{Clean}
 use Rattle.mc_tracks.specs.declared.track.Track.{Track}
-use Rattle.mc_tracks.specs.TrackList.{numbered, HaveDistinctNumbers}
+use Rattle.mc_tracks.specs.TrackList.{numbered, HaveDistinctNumbers, HasNumbers}
 use Rattle.mc_film.specs.declared.whole.WholeFilm.{WholeFilm}
 use Rattle.mc_film.specs.Film.{film_of}
 use Rattle.mc_written.specs.Films.{film_text}
-use Rattle.mc_written.specs.Fronts.{HasNumbers, HasShortTexts}
+use Rattle.mc_written.specs.Fronts.{HasShortTexts}
 use Rattle.mc_dump.specs.Clustered.{clusters_of, first_low, scale_for, CanBeBlock}
 
 -- the text of a film of these tracks and packets, whose times are in units of that scale

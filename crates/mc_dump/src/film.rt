@@ -1,8 +1,8 @@
 ghost use Rattle.std.specs.Prelude.{◌≡◌, ◌↔◌, ◌<◌, ◌≤◌, ◌^◌, [], length, All, None, Some, Err, IfErr, OnOk, OnErr};
 ghost use Rattle.mc_outside.specs.Sink.{Grows, GrowsByFront, WriteCause};
 ghost use Rattle.mc_packet.specs.declared.packet.Pos.{Pos};
-ghost use Rattle.mc_tracks.specs.TrackList.{HaveDistinctNumbers};
-ghost use Rattle.mc_written.specs.Fronts.{HasNumbers, HasShortTexts};
+ghost use Rattle.mc_tracks.specs.TrackList.{HaveDistinctNumbers, HasNumbers};
+ghost use Rattle.mc_written.specs.Fronts.{HasShortTexts};
 ghost use Rattle.mc_dump.specs.declared.error.DumpError.TheVariants as DumpError;
 ghost use Rattle.mc_dump.specs.Clustered.{first_low, scale_for, CanBeBlock};
 ghost use Rattle.mc_dump.specs.Dumped.{dumped_text, AreDumpable, AreOfFilm, DumpsReadBack};

@@ -1,3 +1,4 @@
 pub mod Texts
 pub mod Marks
 pub mod ReadBack
+pub mod Fitting

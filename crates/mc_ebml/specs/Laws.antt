@@ -1,5 +1,5 @@
 -- What is written is read back, said of octets alone: behind whatever stands before, and whatever follows.
-use Rattle.std.specs.Prelude.{◌≡◌, ℕ, ◌^◌, ◌<◌, true, List, ◌++◌, length, Ok}
+use Rattle.std.specs.Prelude.{◌≡◌, ℕ, ◌^◌, ◌<◌, true, List, ◌++◌, length, All, Ok, IfOk}
 use Rattle.std.specs.Str.{IsUtf8}
 use Rattle.byteorder.specs.Endian.{big_bytes}
 use Rattle.mc_ebml.specs.declared.read.Size.{Size}
@@ -28,3 +28,7 @@ IntegersReadBack = (n : ℕ) → n < 2 ^ 64 → uint_of (big_bytes (octets_of n)
 -- the body of a text
 abbrev pub TextsReadBack : Type 0
 TextsReadBack = (text : List ℕ) → IsUtf8 text → has_no_zero text ≡ true → text_of text ≡ Ok text
+
+-- an unsigned integer of octets fits 64 bits
+abbrev pub IntegersFit : Type 0
+IntegersFit = (body : List ℕ) → All (λ b. b < 256) body → IfOk (uint_of body) (λ n. n < 2 ^ 64)

@@ -1,5 +1,5 @@
 //! Laws about what is written, for a crate that writes a film and proves how it is read.
-ghost use Rattle.mc_ebml.specs.Laws.{HeadsReadBack, CodedReadBack, CodedHaveWidth, IntegersReadBack, TextsReadBack};
+ghost use Rattle.mc_ebml.specs.Laws.{HeadsReadBack, CodedReadBack, CodedHaveWidth, IntegersReadBack, TextsReadBack, IntegersFit};
 
 /// Heads, coded numbers, unsigned integers and texts are read back as they were written, wherever
 /// they stand.
@@ -9,4 +9,9 @@ pub fn written_parts()
     ensures coded_width { CodedHaveWidth }
     ensures integers { IntegersReadBack }
     ensures texts { TextsReadBack }
+{}
+
+/// An unsigned integer that is read in octets fits 64 bits.
+pub fn fitting_integers()
+    ensures { IntegersFit }
 {}

@@ -8,7 +8,7 @@ mod law;
 mod read;
 mod write;
 
-pub use law::written_parts;
+pub use law::{fitting_integers, written_parts};
 pub use read::{
     Coded, EbmlError, Head, Size, read_coded, read_head, read_id, read_size, read_text, read_uint,
 };

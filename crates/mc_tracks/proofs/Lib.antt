@@ -5,3 +5,5 @@ pub mod Listed
 pub mod Plain
 pub mod Shape
 pub mod Selecting
+pub mod Twins
+pub mod Fitting

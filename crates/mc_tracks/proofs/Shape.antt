@@ -22,11 +22,11 @@ use Rattle.mc_tracks.proofs.Plain.{nothing, eng, is_plain}
 
 -- ---- what a chain that ends well has gone through
 
-bind_ok : {A B : Type 0} (r : Result A Refused) (f : A → Result B Refused) (y : B) → (r >>= f) ≡ Ok y → (x : A) × (r ≡ Ok x) × (f x ≡ Ok y)
+pub bind_ok : {A B : Type 0} (r : Result A Refused) (f : A → Result B Refused) (y : B) → (r >>= f) ≡ Ok y → (x : A) × (r ≡ Ok x) × (f x ≡ Ok y)
 bind_ok (Ok x) f y e = (x, refl, e)
 bind_ok (Err r) f y e = cc
 
-not_refused : {A : Type 0} (b : Bool) (r : Refused) (x : Result A Refused) (y : A) → cond b (Err r) x ≡ Ok y → (b ≡ false) × (x ≡ Ok y)
+pub not_refused : {A : Type 0} (b : Bool) (r : Refused) (x : Result A Refused) (y : A) → cond b (Err r) x ≡ Ok y → (b ≡ false) × (x ≡ Ok y)
 not_refused true r x y e = cc
 not_refused false r x y e = (refl, e)
 

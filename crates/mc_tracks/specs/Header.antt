@@ -1,6 +1,6 @@
 -- What stands before the packets of a film: the EBML header (RFC 8794, section 11.2), and Info and
 -- Tracks of the Segment (RFC 9559, sections 5.1.2 and 5.1.4).
-use Rattle.std.specs.Prelude.{◌≡◌, ℕ, ◌+◌, ◌-◌, Bool, not, ◌||◌, nat_lt, nat_le, ◌==◌, nat_eq, is_some, codes, if◌then◌else◌, List, [], ◌∷◌, ◌++◌, length, slice_range, option_map, Option, Some, None, Result, Ok, Err}
+use Rattle.std.specs.Prelude.{◌≡◌, ℕ, ◌+◌, ◌-◌, ◌<◌, All, Bool, not, ◌||◌, nat_lt, nat_le, ◌==◌, nat_eq, is_some, codes, if◌then◌else◌, List, [], ◌∷◌, ◌++◌, length, slice_range, option_map, Option, Some, None, Result, Ok, Err}
 use Rattle.std.specs.Result.{result_unwrap_or}
 use Rattle.std.specs.Cmp.Lexicographic.{pointwise}
 use Rattle.mc_ebml.specs.Element.{uint_of, text_of}
@@ -14,7 +14,7 @@ use Rattle.mc_tracks.specs.declared.track.Track.{Track}
 use Rattle.mc_ebml.specs.Ids.{EBML_HEADER, EBML_READ_VERSION, EBML_MAX_ID_LENGTH, EBML_MAX_SIZE_LENGTH, DOC_TYPE, DOC_TYPE_READ_VERSION, TIMESTAMP_SCALE, TRACK_ENTRY, TRACK_NUMBER, TRACK_UID, TRACK_TYPE, CODEC_ID, NAME, LANGUAGE, FLAG_DEFAULT, DEFAULT_DURATION, CONTENT_ENCODINGS}
 use Rattle.mc_tracks.specs.Children.{Children, children_of, element_at, first}
 use Rattle.mc_tracks.specs.Answer.{◌>>=◌}
-use Rattle.mc_tracks.specs.TrackList.{numbered, IsTrackList}
+use Rattle.mc_tracks.specs.TrackList.{numbered, IsTrackList, HasNumbers}
 
 -- ---- what a child stands for
 
@@ -144,3 +144,7 @@ tracks_of body at = tracks_among body at [] (children_of Tracks body)
 -- they are always such a list
 abbrev pub TracksAreListed : Type 0
 TracksAreListed = (body : List ℕ) (at : ℕ) (tracks : List Track) → tracks_of body at ≡ Ok tracks → IsTrackList tracks
+
+-- and of octets their numbers fit 64 bits
+abbrev pub NumbersFit : Type 0
+NumbersFit = (body : List ℕ) (at : ℕ) (tracks : List Track) → All (λ b. b < 256) body → tracks_of body at ≡ Ok tracks → All HasNumbers tracks

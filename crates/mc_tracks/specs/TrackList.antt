@@ -1,5 +1,5 @@
 -- What is asked of a list of tracks.
-use Rattle.std.specs.Prelude.{◌≡◌, ◌≢◌, ℕ, zero, suc, ◌<◌, ◌≤◌, Bool, true, false, not, ◌&&◌, ◌==◌, nat_eq, List, map, filter, find, slice_get, slice_index_or, take, length, All, Option, Some, None, option_map, IfSome}
+use Rattle.std.specs.Prelude.{◌≡◌, ◌≢◌, ℕ, zero, suc, ◌^◌, ◌<◌, ◌≤◌, Bool, true, false, not, ◌&&◌, ◌==◌, nat_eq, List, map, filter, find, slice_get, slice_index_or, take, length, All, Option, Some, None, option_map, IfSome}
 use Rattle.std.specs.List.{IsDistinct}
 use Rattle.std.specs.Str.{IsUtf8}
 use Rattle.mc_packet.specs.declared.choice.Kind.{Kind}
@@ -27,6 +27,12 @@ pub record IsListed (t : Track) : Type 0 where
   pub name : IsPlainText t.name
   pub language : IsPlainText t.language
   pub duration : IfSome t.duration (λ n. 0 < n)
+
+-- its numbers fit 64 bits
+pub record HasNumbers (t : Track) : Type 0 where
+  pub number : t.no < 2 ^ 64
+  pub uid : t.uid < 2 ^ 64
+  pub duration : IfSome t.duration (λ n. n < 2 ^ 64)
 
 -- what every film's list of tracks is, over any octets
 pub record IsTrackList (tracks : List Track) : Type 0 where

@@ -12,6 +12,7 @@ mod info;
 mod law;
 mod list;
 mod refused;
+mod selection;
 mod track;
 mod tracks;
 
@@ -19,7 +20,7 @@ pub use children::{Child, Master, read_element};
 pub use choice::default_choice;
 pub use header::parse_ebml_header;
 pub use info::parse_info;
-pub use law::{listed_tracks, new_numbers, selected_numbers};
+pub use law::{fitting_numbers, listed_tracks, new_numbers, selected_numbers};
 pub use list::TrackList;
 pub use refused::{Refused, TracksError};
 pub use track::Track;

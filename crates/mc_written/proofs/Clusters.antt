@@ -1,15 +1,12 @@
 -- The walk over Clusters that stand one behind the other up to the film's end.
 use Rattle.std.proofs.Common.{◌≡◌, ℕ, ◌+◌, ◌-◌, ◌<◌, ◌≤◌, ◌^◌, Bool, true, false, List, [], ◌∷◌, length, Option, Some, None, refl, ◌∙◌, subst, arith, length-append, ltb, eq-eqb}
 use Rattle.std.proofs.lemmas.Bool.{le-ltb, ne_eqb}
-use Rattle.std.proofs.lemmas.Bool.Decides.{nat_tests}
 use Rattle.std.specs.Prelude.{◌==◌}
 use Rattle.std.specs.List.{AllByRecursion}
-use Rattle.byteorder.specs.Endian.{big_bytes}
-use Rattle.byteorder.specs.Numbers.{length-bytes_high_first}
 use Rattle.mc_packet.specs.declared.walk.Ending.TheVariants.{Clean}
 use Rattle.mc_packet.specs.declared.walk.Level.TheVariants as levels
 use Rattle.mc_ebml.specs.declared.read.Size.TheVariants.{Known}
-use Rattle.mc_ebml.specs.Written.{is_id, octets_of, head_octets, element_octets}
+use Rattle.mc_ebml.specs.Written.{is_id, head_octets, element_octets}
 use Rattle.mc_ebml.specs.Ids.{CLUSTER, TIMESTAMP}
 use Rattle.mc_walk.specs.declared.plan.Plan.{Plan}
 use Rattle.mc_walk.specs.declared.plan.Step.TheVariants.{End, On}

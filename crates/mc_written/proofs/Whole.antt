@@ -1,11 +1,9 @@
 -- The text of a film is read back as that film.
-use Rattle.std.proofs.Common.{◌≡◌, ℕ, ◌+◌, ◌<◌, ◌≤◌, ◌^◌, List, ◌++◌, length, None, Ok, refl, sym, ap, ◌∙◌, subst, arith, length-append}
+use Rattle.std.proofs.Common.{◌≡◌, ℕ, ◌+◌, ◌≤◌, List, ◌++◌, length, None, refl, sym, ap, ◌∙◌, subst, arith, length-append}
 use Rattle.std.specs.List.{AllByRecursion}
 use Rattle.mc_packet.specs.declared.packet.Packet.{Packet}
 use Rattle.mc_packet.specs.declared.walk.Ending.TheVariants.{Clean}
 use Rattle.mc_packet.specs.declared.walk.Level.TheVariants as levels
-use Rattle.mc_tracks.specs.declared.track.Track.{Track}
-use Rattle.mc_tracks.specs.Header.{tracks_of}
 use Rattle.mc_ebml.specs.Ids.{TRACKS}
 use Rattle.mc_walk.specs.declared.plan.Plan.{Plan}
 use Rattle.mc_walk.specs.Walk.{film_walk}
@@ -14,7 +12,7 @@ use Rattle.mc_written.proofs.Lower.{Lower}
 use Rattle.mc_written.specs.Elements.{element_text}
 use Rattle.mc_written.specs.Clusters.{Cluster, clusters_text, clusters_packets, CanBeEntered}
 use Rattle.mc_written.specs.Fronts.{ebml_header, info, opening_text, segment_head, front_with, tracks_body}
-use Rattle.mc_written.specs.Films.{film_with, film_text, CanBeWritten, AnyTracksReadBack, FilmsReadBack}
+use Rattle.mc_written.specs.Films.{film_with, film_text, AnyTracksReadBack, FilmsReadBack}
 use Rattle.mc_written.proofs.Standing.{Stands, stands_whole, first_part, second_part}
 use Rattle.mc_written.proofs.Walking.{Walks, walks_on}
 use Rattle.mc_written.proofs.Clusters.{step_skip, clusters_walk}

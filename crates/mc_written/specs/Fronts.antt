@@ -1,12 +1,12 @@
 -- What stands before the Clusters of a written film (RFC 8794, section 11.2; RFC 9559, sections 5.1, 5.1.2 and 5.1.4).
-use Rattle.std.specs.Prelude.{◌≡◌, ◌≢◌, ℕ, ◌^◌, ◌<◌, ◌≤◌, Bool, false, if◌then◌else◌, codes, List, [], ◌∷◌, ◌++◌, length, map, All, Option, Some, None, IfSome}
+use Rattle.std.specs.Prelude.{if◌then◌else◌, ◌≡◌, ◌≢◌, ℕ, ◌≤◌, Bool, false, codes, List, [], ◌∷◌, ◌++◌, length, map, All, Option, Some, None}
 use Rattle.mc_packet.specs.declared.choice.Kind.{Kind}
 use Rattle.mc_packet.specs.declared.choice.Kind.TheVariants.{Video, Audio, Sub}
 use Rattle.mc_ebml.specs.declared.read.Size.TheVariants.{Unknown}
 use Rattle.mc_ebml.specs.Ids.{EBML_HEADER, DOC_TYPE, SEGMENT, INFO, TIMESTAMP_SCALE, TRACKS, TRACK_ENTRY, TRACK_NUMBER, TRACK_UID, TRACK_TYPE, FLAG_DEFAULT, LANGUAGE, CODEC_ID, NAME, DEFAULT_DURATION}
 use Rattle.mc_ebml.specs.Written.{head_octets}
 use Rattle.mc_tracks.specs.declared.track.Track.{Track}
-use Rattle.mc_tracks.specs.TrackList.{IsListed}
+use Rattle.mc_tracks.specs.TrackList.{HasNumbers, IsListed}
 use Rattle.mc_written.specs.Elements.{Element, element_text, elements, number}
 
 -- all else in the EBML header has its default
@@ -83,12 +83,6 @@ abbrev pub front_text : ℕ → List Track → List ℕ
 front_text scale tracks = front_with scale (tracks_body tracks)
 
 -- ---- what can be read back
-
--- its numbers fit 64 bits
-pub record HasNumbers (t : Track) : Type 0 where
-  pub number : t.no < 2 ^ 64
-  pub uid : t.uid < 2 ^ 64
-  pub duration : IfSome t.duration (λ n. n < 2 ^ 64)
 
 -- a track that a film can list, and whose blocks can be read
 pub record CanBeListed (t : Track) : Type 0 where

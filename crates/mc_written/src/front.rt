@@ -1,7 +1,8 @@
 ghost use Rattle.std.specs.Prelude.{◌≡◌, ◌++◌, ◌-◌, ◌<◌, ◌≤◌, ◌^◌, length, All, IsTrue, OnOk, IfOk, IfSome};
 ghost use Rattle.mc_ebml.specs.Written.{is_id};
 ghost use Rattle.mc_written.specs.Elements.{element_text, elements};
-ghost use Rattle.mc_written.specs.Fronts.{name_element, duration_element, type_of, flag, number_elements, text_elements, track_elements, entry, tracks_body, info, opening_text, front_with, front_text, HasNumbers, HasShortTexts, IsShortText};
+ghost use Rattle.mc_tracks.specs.TrackList.{HasNumbers};
+ghost use Rattle.mc_written.specs.Fronts.{name_element, duration_element, type_of, flag, number_elements, text_elements, track_elements, entry, tracks_body, info, opening_text, front_with, front_text, HasShortTexts, IsShortText};
 
 use mc_ebml::{Size, ids, write_element, write_head, write_text, write_uint};
 use mc_packet::{Kind, NoMemory};

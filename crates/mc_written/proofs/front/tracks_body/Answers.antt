@@ -2,7 +2,8 @@ use Rattle.std.proofs.Common.{◌++◌, List, ℕ, sym, ap, subst, ◌∙◌, ar
 use Rattle.std.proofs.lemmas.List.Elements.{All-more}
 use Rattle.mc_tracks.specs.declared.track.Track.{Track}
 use Rattle.mc_written.specs.Elements.{element_text}
-use Rattle.mc_written.specs.Fronts.{entry, HasNumbers}
+use Rattle.mc_tracks.specs.TrackList.{HasNumbers}
+use Rattle.mc_written.specs.Fronts.{entry}
 use Rattle.mc_written.proofs.Fronts.{entries_push}
 use Rattle.mc_written.proofs.front.tracks_body.Goals as goal
 

@@ -1,2 +1,4 @@
 pub mod Made
 pub mod Read
+pub mod Rounds
+pub mod Pieces

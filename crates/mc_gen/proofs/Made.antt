@@ -6,7 +6,8 @@ use Rattle.mc_ebml.specs.Element.{head_at, id_at, size_at, coded_at, uint_of, te
 use Rattle.mc_ebml.specs.Written.{head_octets, element_octets}
 use Rattle.mc_tracks.specs.Children.{element_at, child_at, children, children_of}
 use Rattle.mc_tracks.specs.Header.{entry_of, tracks_of}
-use Rattle.mc_gen.specs.Made.{made_body, made_tracks}
+use Rattle.mc_written.specs.Elements.{elements}
+use Rattle.mc_gen.specs.Made.{made_body, made_elements, made_tracks}
 
 video_ascii : IsAscii (codes "V_VP9")
 video_ascii zero = omega arith
@@ -35,3 +36,11 @@ made_read from = rw (text_ascii (codes "V_VP9") video_ascii, text_ascii (codes "
 pub made_short : length made_body ≤ 16777216
 unfolding head_octets element_octets
 made_short = let long : length made_body ≡ 39 = refl in omega arith
+
+pub video_short : length (elements (made_elements 1 (codes "V_VP9"))) ≤ 65536
+unfolding head_octets element_octets
+video_short = let long : length (elements (made_elements 1 (codes "V_VP9"))) ≡ 17 = refl in omega arith
+
+pub audio_short : length (elements (made_elements 2 (codes "A_OPUS"))) ≤ 65536
+unfolding head_octets element_octets
+audio_short = let long : length (elements (made_elements 2 (codes "A_OPUS"))) ≡ 18 = refl in omega arith

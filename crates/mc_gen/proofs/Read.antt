@@ -1,5 +1,5 @@
 -- A generated film is read back as its packets.
-use Rattle.std.proofs.Common.{◌≡◌, ℕ, zero, suc, ◌+◌, ◌-◌, ◌*◌, ◌%◌, ◌/◌, ◌<◌, ◌≤◌, ◌^◌, min, Bool, true, List, [], ◌∷◌, ◌++◌, length, map, Ok, refl, sym, ap, ◌∙◌, arith, ℤ, append_assoc, length-append}
+use Rattle.std.proofs.Common.{◌≡◌, ℕ, zero, suc, ◌+◌, ◌-◌, ◌*◌, ◌%◌, ◌/◌, ◌<◌, ◌≤◌, ◌^◌, min, Bool, true, List, ◌∷◌, ◌++◌, length, map, refl, sym, ap, ◌∙◌, arith, ℤ}
 use Rattle.std.proofs.Math.IntN.{pos-*ℤ-pos}
 use Rattle.std.proofs.lemmas.Int.{ints}
 use Rattle.std.proofs.lemmas.List.{map-append}
@@ -16,7 +16,7 @@ use Rattle.mc_written.specs.Clusters.{Block, Cluster, block, block_time, cluster
 use Rattle.mc_written.specs.Films.{AnyTracksReadBack, film_as, CanBeFilmed}
 use Rattle.mc_written.specs.Fronts.{front_with}
 use Rattle.mc_gen.specs.Made.{made_body, made_tracks}
-use Rattle.mc_gen.specs.Generated.{blocks, is_key, picture, sound, picture_body, picture_octet, picture_size, sound_body, picture_block, sound_block, shown, cluster_at, generated, generated_clusters, generated_packets, GeneratedReadBack}
+use Rattle.mc_gen.specs.Generated.{blocks, is_key, picture, sound, picture_body, picture_octet, picture_size, sound_body, picture_block, sound_block, shown, cluster_at, generated, generated_clusters, GeneratedReadBack}
 use Rattle.mc_gen.proofs.Made.{made_read, made_short}
 
 -- ---- a block

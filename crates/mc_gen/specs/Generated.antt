@@ -1,5 +1,5 @@
 -- A generated film of so many pictures: its packets, its Clusters, its octets, and what a right reader finds in it.
-use Rattle.std.specs.Prelude.{◌≡◌, ℕ, ◌+◌, ◌-◌, ◌*◌, ◌%◌, ◌/◌, ◌≤◌, min, Bool, true, ◌==◌, List, [], ◌∷◌, ◌++◌, length, map, sum_by, pos, ℤ, replicate, codes, Ok}
+use Rattle.std.specs.Prelude.{◌≡◌, ℕ, ◌+◌, ◌-◌, ◌*◌, ◌%◌, ◌/◌, ◌≤◌, min, Bool, true, ◌==◌, List, [], ◌∷◌, map, pos, Ok}
 use Rattle.std.specs.List.{range_with_len, flat_map}
 use Rattle.mc_packet.specs.Contents.{Content, contents}
 use Rattle.mc_packet.specs.declared.walk.Ending.TheVariants.{Clean}

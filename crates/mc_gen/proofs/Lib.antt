@@ -2,3 +2,4 @@ pub mod Made
 pub mod Read
 pub mod Rounds
 pub mod Pieces
+mod Worked

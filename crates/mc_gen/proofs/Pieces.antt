@@ -89,6 +89,11 @@ stops_within old mid new piece rest whole front g =
     let Q : List ℕ → Type 0 = λ x. GrowsByFront old new x in
     subst Q g.2 (length g.0 + h.0, subst P (sym (take-append-add g.0 (piece ++ rest) h.0)) (grows_on old mid new g.0 (take h.0 (piece ++ rest)) g.1 h.1))
 
+-- of what was handed in
+pub front_as : (old new : Option (List ℕ)) (a b : List ℕ) → a ≡ b → GrowsByFront old new a → GrowsByFront old new b
+front_as old new a b is front =
+    let P : List ℕ → Type 0 = λ x. GrowsByFront old new x in subst P is front
+
 -- a refusal before it is written
 pub stops : (old new : Option (List ℕ)) (piece rest whole : List ℕ) → Gathered old new piece rest whole → GrowsByFront old new whole
 stops old new piece rest whole g = stops_within old new new piece rest whole (0, grows_nothing new) g

@@ -1,5 +1,5 @@
 -- A generated film is read back as its packets.
-use Rattle.std.proofs.Common.{◌≡◌, ℕ, zero, suc, ◌+◌, ◌-◌, ◌*◌, ◌%◌, ◌/◌, ◌<◌, ◌≤◌, ◌^◌, min, Bool, true, List, ◌∷◌, ◌++◌, length, map, refl, sym, ap, ◌∙◌, arith, ℤ}
+use Rattle.std.proofs.Common.{◌≡◌, ℕ, zero, suc, ◌+◌, ◌-◌, ◌*◌, ◌%◌, ◌/◌, ◌<◌, ◌≤◌, ◌^◌, min, Bool, true, List, [], ◌∷◌, ◌++◌, length, map, refl, sym, ap, ◌∙◌, arith, ℤ}
 use Rattle.std.proofs.Math.IntN.{pos-*ℤ-pos}
 use Rattle.std.proofs.lemmas.Int.{ints}
 use Rattle.std.proofs.lemmas.List.{map-append}
@@ -16,7 +16,7 @@ use Rattle.mc_written.specs.Clusters.{Block, Cluster, block, block_time, cluster
 use Rattle.mc_written.specs.Films.{AnyTracksReadBack, film_as, CanBeFilmed}
 use Rattle.mc_written.specs.Fronts.{front_with}
 use Rattle.mc_gen.specs.Made.{made_body, made_tracks}
-use Rattle.mc_gen.specs.Generated.{blocks, is_key, picture, sound, picture_body, picture_octet, picture_size, sound_body, picture_block, sound_block, shown, cluster_at, generated, generated_clusters, GeneratedReadBack}
+use Rattle.mc_gen.specs.Generated.{blocks, is_key, picture, sound, picture_body, picture_octet, picture_size, sound_body, picture_block, sound_block, shown, cluster_at, generated, generated_clusters, IsPoint, GeneratedReadBack}
 use Rattle.mc_gen.proofs.Made.{made_read, made_short}
 
 -- ---- a block
@@ -142,6 +142,22 @@ contents_all n k (suc m) at =
     ∙ sym (flat_map-append shown (range_with_len (12 * k) mine) (range_with_len (12 * (k + 1)) left))
     ∙ ap (flat_map shown) range
 
+-- ---- sync points
+
+all_joined : {X : Type 0} (P : X → Type 0) (xs ys : List X) → AllByRecursion P xs → AllByRecursion P ys → AllByRecursion P (xs ++ ys)
+all_joined P [] ys a b = b
+all_joined P (x ∷ xs) ys a b = (a.0, all_joined P xs ys a.1 b)
+
+blocks_points : (time at : ℕ) (bs : List Block) → AllByRecursion IsPoint (packets_at 1000000 time at bs)
+blocks_points time at [] = tt
+blocks_points time at (b ∷ bs) = (refl, blocks_points time (at + length (element_text (block b))) bs)
+
+clusters_points : (at : ℕ) (cs : List Cluster) → AllByRecursion IsPoint (clusters_packets 1000000 at cs)
+clusters_points at [] = tt
+clusters_points at (c ∷ cs) =
+    let behind : ℕ = at + length (element_text (cluster c)) in
+    all_joined IsPoint (packets_at 1000000 c.time (blocks_begin at c) c.blocks) (clusters_packets 1000000 behind cs) (blocks_points c.time (blocks_begin at c) c.blocks) (clusters_points behind cs)
+
 pub generated_reads_back : AnyTracksReadBack → GeneratedReadBack
 unfolding generated
 generated_reads_back films n few =
@@ -162,6 +178,7 @@ generated_reads_back films n few =
         scale = refl;
         listed = refl;
         packets = packets ∙ ap (λ (x : ℕ). flat_map shown (range_with_len 0 x)) all;
+        points = clusters_points (length (front_with 1000000 made_body)) cs;
         ending = refl;
       },
     )

@@ -1,7 +1,8 @@
 -- A generated film of so many pictures: its packets, its Clusters, its octets, and what a right reader finds in it.
 use Rattle.std.specs.Prelude.{◌≡◌, ℕ, ◌+◌, ◌-◌, ◌*◌, ◌%◌, ◌/◌, ◌≤◌, min, Bool, true, ◌==◌, List, [], ◌∷◌, map, pos, Ok}
-use Rattle.std.specs.List.{range_with_len, flat_map}
+use Rattle.std.specs.List.{AllByRecursion, range_with_len, flat_map}
 use Rattle.mc_packet.specs.Contents.{Content, contents}
+use Rattle.mc_packet.specs.declared.packet.Packet.{Packet}
 use Rattle.mc_packet.specs.declared.walk.Ending.TheVariants.{Clean}
 use Rattle.mc_film.specs.declared.whole.WholeFilm.{WholeFilm}
 use Rattle.mc_film.specs.Film.{film_of}
@@ -64,11 +65,16 @@ generated_clusters n = map (λ k. cluster_at n (12 * k)) (range_with_len 0 ((n +
 unfoldable pub generated : ℕ → List ℕ
 generated n = film_with 1000000 made_body (generated_clusters n)
 
+-- a packet is a sync point where it bears the key mark
+abbrev pub IsPoint : Packet → Type 0
+IsPoint p = p.sync ≡ p.key
+
 -- the film that is read back
 pub record IsGenerated (n : ℕ) (film : WholeFilm) : Type 0 where
   pub scale : film.scale ≡ 1000000
   pub listed : film.tracks ≡ made_tracks
   pub packets : contents film.packets ≡ generated_packets n
+  pub points : AllByRecursion IsPoint film.packets
   pub ending : film.ending ≡ Clean
 
 abbrev pub GeneratedReadBack : Type 0

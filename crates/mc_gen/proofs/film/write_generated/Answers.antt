@@ -1,11 +1,11 @@
-use Rattle.std.proofs.Common.{◌≡◌, ◌∙◌, ◌+◌, ◌*◌, ap, arith, rules, subst, List, ℕ, Option, ◌++◌}
+use Rattle.std.proofs.Common.{◌≡◌, ◌∙◌, ◌+◌, ◌*◌, ap, arith, rules, List, ℕ, Option, ◌++◌}
 use Rattle.mc_outside.specs.Sink.{GrowsByFront}
 use Rattle.mc_written.specs.Elements.{element_text}
 use Rattle.mc_written.specs.Clusters.{cluster}
 use Rattle.mc_written.specs.Fronts.{front_with}
 use Rattle.mc_gen.specs.Made.{made_body}
 use Rattle.mc_gen.specs.Generated.{cluster_at, generated}
-use Rattle.mc_gen.proofs.Pieces.{Gathered, all_left, at_err, begins, gathers, last_ok, last_refused, left_text, none_left, one_left, stops, stops_within, writes}
+use Rattle.mc_gen.proofs.Pieces.{Gathered, all_left, at_err, begins, front_as, gathers, last_ok, last_refused, left_text, none_left, one_left, stops, stops_within, writes}
 use Rattle.mc_gen.proofs.film.write_generated.Goals as goal
 
 pub loop-k-init : goal.loop-k-init
@@ -31,8 +31,9 @@ returns-in_err-write_piece-clause-refused g c =
     let mid : Option (List ℕ) = g.K.Sink.text c.loop-k.out in
     let gathered : Gathered old mid (c.loop-k.piece.items ++ more) (left_text n (k + 1)) (generated n)
     = gathers old mid c.loop-k.piece.items more (left_text n k) (left_text n (k + 1)) (generated n) (one_left n k (omega (arith, c.loop-k-test.true))) c.loop-k.invariant.gathered in
-    let P : List ℕ → Type 0 = λ x. GrowsByFront mid (g.K.Sink.text c.write_piece.new.out) x in
-    let front : P (c.loop-k.piece.items ++ more) = subst P c.in-Ok-push_cluster.ensures.ok c.in_err-write_piece.ensures.refused in
+    let piece : List ℕ = c.push_cluster.new.out.items in
+    let front : GrowsByFront mid (g.K.Sink.text c.write_piece.new.out) (c.loop-k.piece.items ++ more)
+    = front_as mid (g.K.Sink.text c.write_piece.new.out) piece (c.loop-k.piece.items ++ more) c.in-Ok-push_cluster.ensures.ok c.in_err-write_piece.ensures.refused in
     at_err c.from_residual.result
     (stops_within old mid (g.K.Sink.text c.write_piece.new.out) (c.loop-k.piece.items ++ more) (left_text n (k + 1)) (generated n) front gathered)
 
@@ -46,9 +47,10 @@ loop-k-preserved g c =
     let gathered : Gathered old mid (c.loop-k.piece.items ++ more) (left_text n (k + 1)) (generated n)
     = gathers old mid c.loop-k.piece.items more (left_text n k) (left_text n (k + 1)) (generated n) (one_left n k (omega (arith, c.loop-k-test.true))) c.loop-k.invariant.gathered in
     let ok = c.in_ok-write_piece.ensures.ok in
+    let left : List ℕ = c.write_piece.new.piece.items in
+    let parts : ok.0 ++ left ≡ c.loop-k.piece.items ++ more = ◌∙◌ {c = c.loop-k.piece.items ++ more} ok.2 c.in-Ok-push_cluster.ensures.ok in
     record {
-      gathered = writes old mid (g.K.Sink.text c.write_piece.new.out) (c.loop-k.piece.items ++ more) ok.0 c.write_piece.new.piece.items (left_text n (k + 1)) (generated n) ok.1
-          (ok.2 ∙ c.in-Ok-push_cluster.ensures.ok) gathered;
+      gathered = writes old mid (g.K.Sink.text c.write_piece.new.out) (c.loop-k.piece.items ++ more) ok.0 left (left_text n (k + 1)) (generated n) ok.1 parts gathered;
       later = omega (arith, c.loop-k.invariant.later, c.write_piece.ensures.cause.later);
     }
 

@@ -9,7 +9,8 @@ use mc_packet::{
 };
 use std::alloc::Global;
 
-const VIDEO: TrackNo = 1;
+/// The video track.
+pub const VIDEO: TrackNo = 1;
 
 const AUDIO: TrackNo = 2;
 
@@ -26,6 +27,9 @@ const PAYLOAD: [u8; 256] = [7; 256];
 
 /// Behind the place of each block that is made.
 pub const LAST: u64 = 0x4000_0000_0000_0000;
+
+// The place of the first block of a second range.
+const FAR: u64 = 0x2000_0000_0000_0000;
 
 /// Both tracks.
 pub const TRACKS: Choice = Choice {
@@ -50,6 +54,17 @@ pub const STARTS: Starts = Starts {
     sub: None,
     mark: Mark {
         pos: 0,
+        level: Level::Segment,
+    },
+};
+
+/// Where a second range begins, far behind the first.
+pub const FAR_STARTS: Starts = Starts {
+    video: Some(FAR),
+    audio: Some(FAR + STRIDE),
+    sub: None,
+    mark: Mark {
+        pos: FAR,
         level: Level::Segment,
     },
 };

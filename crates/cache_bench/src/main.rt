@@ -6,6 +6,7 @@ mod film;
 mod work;
 
 use mc_cache::Cache;
+use mc_packet::Dir;
 use std::alloc::Global;
 use std::time::{Clock, Instant};
 use std::{env, io};
@@ -13,6 +14,9 @@ use std::{env, io};
 const FEW_PACKETS: u32 = 1000;
 
 const FEW_SEEKS: u32 = 10;
+
+// What two ranges may keep behind the readers, in octets.
+const TWO_RANGES: u64 = 0x1_0000_0000;
 
 // Says how often something was done, and where times are asked for in how many nanoseconds.
 fn tell<R: Print + Clock>(
@@ -37,26 +41,19 @@ fn run<R: Print + Clock>(
     seeks: u32,
     is_timed: bool,
 ) -> io::Result<()> {
-    let mut cache = work::begin(alloc)?;
-    fill(rt, alloc, &mut cache, packets, is_timed)?;
-    look_up(rt, &mut cache, packets, seeks, is_timed)?;
-    prune(rt, &mut cache, is_timed)
-}
-
-// Feeds it all packets.
-fn fill<R: Print + Clock>(
-    rt: &R,
-    alloc: Global,
-    cache: &mut Cache,
-    packets: u32,
-    is_timed: bool,
-) -> io::Result<()> {
+    let mut cache = work::begin(alloc, 0)?;
     let start = Instant::now(rt)?;
-    let fed = work::feed(alloc, cache, packets)?;
-    tell(rt, "packets fed", fed as u64, start, is_timed)
+    let fed = work::feed(alloc, &mut cache, 0, packets)?;
+    tell(rt, "packets fed", fed as u64, start, is_timed)?;
+    let start = Instant::now(rt)?;
+    let read = work::read(&cache, packets);
+    tell(rt, "packets read", read as u64, start, is_timed)?;
+    look_up(rt, &mut cache, packets, seeks, is_timed)?;
+    prune(rt, &mut cache, is_timed)?;
+    change_ranges(rt, alloc, packets, seeks, is_timed)
 }
 
-// Seeks in it, without a look and with one.
+// Seeks in it, back and forward without a look, and with one.
 fn look_up<R: Print + Clock>(
     rt: &R,
     cache: &mut Cache,
@@ -65,14 +62,35 @@ fn look_up<R: Print + Clock>(
     is_timed: bool,
 ) -> io::Result<()> {
     let start = Instant::now(rt)?;
-    let served = work::seek(cache, packets, seeks);
-    tell(rt, "seeks served", served as u64, start, is_timed)?;
+    let back = work::seek(cache, packets, seeks, Dir::Back) as u64;
+    tell(rt, "seeks served", back, start, is_timed)?;
     let start = Instant::now(rt)?;
-    let looked = work::seek_and_look(cache, packets, seeks);
+    let forward = work::seek(cache, packets, seeks, Dir::Forward) as u64;
+    tell(rt, "forward seeks served", forward, start, is_timed)?;
+    let start = Instant::now(rt)?;
+    let looked = work::seek_and_look(cache, packets, seeks) as u64;
+    tell(rt, "seeks served, with a look", looked, start, is_timed)
+}
+
+// Seeks here and there in two ranges, each of one half of the packets.
+fn change_ranges<R: Print + Clock>(
+    rt: &R,
+    alloc: Global,
+    packets: u32,
+    seeks: u32,
+    is_timed: bool,
+) -> io::Result<()> {
+    let mut cache = work::begin(alloc, TWO_RANGES)?;
+    let half = packets / 2;
+    let _first = work::feed(alloc, &mut cache, 0, half)?;
+    work::begin_far(&mut cache)?;
+    let _second = work::feed(alloc, &mut cache, half, half)?;
+    let start = Instant::now(rt)?;
+    let served = work::seek_between(&mut cache, half, seeks) as u64;
     tell(
         rt,
-        "seeks served, with a look",
-        looked as u64,
+        "seeks served by two ranges in turn",
+        served,
         start,
         is_timed,
     )

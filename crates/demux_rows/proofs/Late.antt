@@ -3,11 +3,11 @@ use Rattle.std.proofs.Common.{◌≡◌, ℕ, ◌+◌, Option, Some, arith, subs
 use Rattle.std.specs.Prelude.{IfSome}
 use Rattle.mc_packet.specs.declared.walk.Chunk.{Chunk}
 use Rattle.mc_packet.specs.declared.walk.Mark.{Mark}
-use Rattle.mc_demux.specs.declared.job.Job.{Job}
-use Rattle.mc_demux.specs.declared.job.Job.TheVariants.{Resume}
-use Rattle.mc_demux.specs.State.{DemuxState}
-use Rattle.mc_demux.specs.Demuxers.{IsDemux, KeepsJob}
-use Rattle.mc_demux.specs.Outcomes.{BringsPart}
+use Rattle.mc_calls.specs.declared.job.Job.{Job}
+use Rattle.mc_calls.specs.declared.job.Job.TheVariants.{Resume}
+use Rattle.mc_calls.specs.State.{DemuxState}
+use Rattle.mc_calls.specs.Demuxers.{IsDemux, KeepsJob}
+use Rattle.mc_calls.specs.Outcomes.{BringsPart}
 
 pub late_fits : (d e : DemuxState) (n : ℕ) (mark : Mark) (part : Chunk) → IsDemux d → d.kept ≡ Some (Resume n mark) → e.number ≡ d.number + 1 → BringsPart n part e
 late_fits d e n mark part i k later = λ same.

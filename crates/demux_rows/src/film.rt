@@ -2,7 +2,7 @@ ghost use Rattle.std.specs.Prelude.{◌≡◌, IfOk, is_some};
 ghost use Rattle.mc_packet.specs.Shape.{HasShape};
 ghost use Rattle.mc_journal.specs.Used.{least_start, place_of_starts};
 ghost use Rattle.std.specs.Option.{option_map_or};
-ghost use Rattle.mc_demux.specs.Outcomes.{AreStartsFor};
+ghost use Rattle.mc_calls.specs.Outcomes.{AreStartsFor};
 
 use mc_packet::{Choice, Chunk, Ending, Mark, Packet, Packets, Starts, TrackNo};
 use rows::RowError;

@@ -1,6 +1,6 @@
 ghost use Rattle.std.specs.Prelude.{◌≡◌, ◌+◌, IfOk, OnOk};
-ghost use Rattle.mc_demux.specs.Demuxers.{IsDemux};
-ghost use Rattle.mc_demux.specs.Jobs.{kept_job};
+ghost use Rattle.mc_calls.specs.Demuxers.{IsDemux};
+ghost use Rattle.mc_calls.specs.Jobs.{kept_job};
 
 use crate::film::{part_at, starts_at};
 use mc_demux::{Demux, DemuxError, Job, Taken};
@@ -59,7 +59,7 @@ fn next_job(demux: &mut Demux) -> Result<Job, RowError>
 }
 
 /// Does the next job, where it reads on.
-#[tactic(auto, using(mc_demux::proofs::Shapes::resume_fits, mc_demux::proofs::Shapes::read_fits))]
+#[tactic(auto, using(mc_calls::proofs::Shapes::resume_fits, mc_calls::proofs::Shapes::read_fits))]
 pub fn work(alloc: Global, demux: &mut Demux, film: &[Packet]) -> Result<Done, RowError> {
     match next_job(demux)? {
         Job::Resume { no, mark } => {
@@ -81,7 +81,7 @@ pub fn work(alloc: Global, demux: &mut Demux, film: &[Packet]) -> Result<Done, R
 }
 
 /// Does the next job, where it finds starts.
-#[tactic(auto, using(mc_demux::proofs::Shapes::starts_fit))]
+#[tactic(auto, using(mc_calls::proofs::Shapes::starts_fit))]
 pub fn find(demux: &mut Demux, video: u64, audio: u64) -> Result<Done, RowError> {
     match next_job(demux)? {
         Job::SeekTo { no, set, .. } => {

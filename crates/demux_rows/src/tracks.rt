@@ -1,8 +1,8 @@
 ghost use Rattle.std.specs.Prelude.{◌≡◌, IfOk};
 ghost use Rattle.mc_packet.specs.Choices.{is_known, passes};
 ghost use Rattle.mc_tracks.specs.TrackList.{is_of};
-ghost use Rattle.mc_demux.specs.Demuxers.{AreLimits};
-ghost use Rattle.mc_demux.specs.Selecting.{knows};
+ghost use Rattle.mc_calls.specs.Demuxers.{AreLimits};
+ghost use Rattle.mc_calls.specs.Selecting.{knows};
 
 use mc_demux::{Demux, DemuxError};
 use mc_packet::{Choice, Kind, Limits, NoMemory, TrackNo};

@@ -2,18 +2,17 @@
 ghost use Rattle.std.specs.Prelude.{◌≡◌, ◌≤◌, ℕ, OnOk};
 ghost use Rattle.mc_packet.specs.Choices.{is_empty};
 ghost use Rattle.mc_journal.specs.Films.{Film};
-ghost use Rattle.mc_demux.specs.Asking.{Asks};
-ghost use Rattle.mc_demux.specs.Demuxers.{IsDemux};
-ghost use Rattle.mc_demux.specs.Film.{StandsFor};
-ghost use Rattle.mc_demux.specs.Jobs.{job_of, kept_job, read_at, read_job, start_job};
-ghost use Rattle.mc_demux.specs.Keeping.{IsRoomy};
-ghost use Rattle.mc_demux.specs.Marks.{AreAmong, marks_of};
+ghost use Rattle.mc_calls.specs.Asking.{Asks};
+ghost use Rattle.mc_calls.specs.Demuxers.{IsDemux};
+ghost use Rattle.mc_calls.specs.Film.{StandsFor};
+ghost use Rattle.mc_calls.specs.Jobs.{job_of, kept_job, read_at, read_job, start_job};
+ghost use Rattle.mc_calls.specs.Keeping.{IsRoomy};
+ghost use Rattle.mc_calls.specs.Marks.{AreAmong, marks_of};
 ghost use Rattle.mc_journal.specs.Callers.{Grew};
 
-use crate::answer::DemuxError;
 use crate::demux::Demux;
-use crate::job::Job;
 use crate::reading::FULL;
+use mc_calls::{DemuxError, Job};
 use mc_packet::{Choice, Mark, NoMemory};
 
 pub(crate) fn is_empty(set: Choice) -> bool

@@ -2,9 +2,9 @@
 ghost use Rattle.std.specs.Prelude.{◌≡◌, ◌≤◌, ◌++◌, IfOk, OnOk, length, reverse};
 ghost use Rattle.std.specs.List.{prefix_len};
 ghost use Rattle.mc_journal.specs.Films.{Film};
-ghost use Rattle.mc_demux.specs.Cached.{cached_by, cached_of, held_in, held_of, is_earlier, merged};
-ghost use Rattle.mc_demux.specs.Demuxers.{IsDemux};
-ghost use Rattle.mc_demux.specs.Film.{StandsFor};
+ghost use Rattle.mc_calls.specs.Cached.{cached_by, cached_of, held_in, held_of, is_earlier, merged};
+ghost use Rattle.mc_calls.specs.Demuxers.{IsDemux};
+ghost use Rattle.mc_calls.specs.Film.{StandsFor};
 
 use crate::demux::Demux;
 use crate::reading::past;

@@ -1,12 +1,11 @@
 //! A demuxer, and what it is asked without a change.
 ghost use Rattle.std.specs.Prelude.{◌≡◌, Option, Some, None};
 ghost use Rattle.mc_cache.specs.Cache.{mark_in};
-ghost use Rattle.mc_demux.specs.State.{DemuxState};
-ghost use Rattle.mc_demux.specs.Demuxers.{IsDemux};
+ghost use Rattle.mc_calls.specs.State.{DemuxState};
+ghost use Rattle.mc_calls.specs.Demuxers.{IsDemux};
 
-use crate::job::Job;
-use crate::waiting::{Failure, Switch, Target};
 use mc_cache::Cache;
+use mc_calls::{Failure, Job, Switch, Target};
 use mc_journal::{DemuxJournal, DemuxRecord};
 use mc_packet::{Choice, Heads, Mark};
 use mc_tracks::TrackList;
@@ -59,8 +58,8 @@ pub struct Demux {
 
 impl Model for Demux {
     ghost use Rattle.std.specs.Prelude.{◌-◌, vec_capacity, length};
-    ghost use Rattle.mc_demux.specs.State.{DemuxState};
-    ghost use Rattle.mc_demux.specs.Demuxers.{IsDemux};
+    ghost use Rattle.mc_calls.specs.State.{DemuxState};
+    ghost use Rattle.mc_calls.specs.Demuxers.{IsDemux};
 
     ghost Value = { DemuxState };
 

@@ -4,18 +4,18 @@ ghost use Rattle.mc_packet.specs.Shape.{HasShape};
 ghost use Rattle.mc_journal.specs.Films.{Film};
 ghost use Rattle.mc_cache.specs.Cache.{count_of, mark_in, ranges_of};
 ghost use Rattle.mc_cache.specs.Rooms.{HasRoomToFeed};
-ghost use Rattle.mc_demux.specs.Demuxers.{IsDemux};
-ghost use Rattle.mc_demux.specs.Feeding.{TakesPart};
-ghost use Rattle.mc_demux.specs.Film.{IsPartOf, StandsFor};
-ghost use Rattle.mc_demux.specs.Keeping.{IsAsBefore};
-ghost use Rattle.mc_demux.specs.Marks.{AreAmong, marks_of};
-ghost use Rattle.mc_demux.specs.Outcomes.{BringsPart, Feeds, PartFits, is_at};
+ghost use Rattle.mc_calls.specs.Demuxers.{IsDemux};
+ghost use Rattle.mc_calls.specs.Feeding.{TakesPart};
+ghost use Rattle.mc_calls.specs.Film.{IsPartOf, StandsFor};
+ghost use Rattle.mc_calls.specs.Keeping.{IsAsBefore};
+ghost use Rattle.mc_calls.specs.Marks.{AreAmong, marks_of};
+ghost use Rattle.mc_calls.specs.Outcomes.{BringsPart, Feeds, PartFits, is_at};
 ghost use Rattle.mc_journal.specs.Callers.{Grew, demuxer};
 
-use crate::answer::{DemuxError, Taken};
 use crate::demux::Demux;
 use crate::joining::settle;
 use crate::reading::FULL;
+use mc_calls::{DemuxError, Taken};
 use mc_journal::{DEMUXER, DemuxRecord};
 use mc_packet::{Chunk, Mark, NoMemory};
 

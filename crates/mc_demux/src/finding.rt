@@ -6,20 +6,20 @@ ghost use Rattle.mc_packet.specs.Choices.{AreAtMark};
 ghost use Rattle.mc_cache.specs.Cache.{IsCache, count_of, ranges_of};
 ghost use Rattle.mc_cache.specs.Changing.{IsSameButRoom};
 ghost use Rattle.mc_cache.specs.Rooms.{HasRoomToJoin, IsPrepared};
-ghost use Rattle.mc_demux.specs.Demuxers.{IsDemux};
-ghost use Rattle.mc_demux.specs.Film.{AreStartsOf, StandsFor};
-ghost use Rattle.mc_demux.specs.Finding.{AddsOne, AddsTracks, Begins, BeginsRange, IsReadyToBegin, MayAddAll, MayAddOne, TakesStarts};
-ghost use Rattle.mc_demux.specs.Keeping.{IsAsBefore};
-ghost use Rattle.mc_demux.specs.Marks.{AreAmong, marks_of};
+ghost use Rattle.mc_calls.specs.Demuxers.{IsDemux};
+ghost use Rattle.mc_calls.specs.Film.{AreStartsOf, StandsFor};
+ghost use Rattle.mc_calls.specs.Finding.{AddsOne, AddsTracks, Begins, BeginsRange, IsReadyToBegin, MayAddAll, MayAddOne, TakesStarts};
+ghost use Rattle.mc_calls.specs.Keeping.{IsAsBefore};
+ghost use Rattle.mc_calls.specs.Marks.{AreAmong, marks_of};
 ghost use Rattle.mc_journal.specs.Callers.{Grew, demuxer};
-ghost use Rattle.mc_demux.specs.Outcomes.{BringsStarts, Finds, StartsFit, head_at, heads_at};
+ghost use Rattle.mc_calls.specs.Outcomes.{BringsStarts, Finds, StartsFit, head_at, heads_at};
 
-use crate::answer::{DemuxError, Taken};
 use crate::demux::{Demux, Records};
 use crate::joining::{settle, tell_drops};
 use crate::reading::FULL;
 use crate::seek::NOTHING;
 use mc_cache::Cache;
+use mc_calls::{DemuxError, Taken};
 use mc_journal::{DEMUXER, DemuxRecord};
 use mc_packet::{Choice, Heads, Kind, Mark, NoMemory, Pos, Starts, TrackNo};
 
@@ -57,7 +57,7 @@ fn add_one(cache: &mut Cache, kind: Kind, track: Option<TrackNo>, start: Option<
 }
 
 // Gives the current range an empty queue of each added track.
-#[tactic(auto, using(crate::proofs::Adding::still_may))]
+#[tactic(auto, using(mc_calls::proofs::Adding::still_may))]
 fn add_tracks(cache: &mut Cache, added: Choice, starts: &Starts)
     requires may { MayAddAll added starts.now cache.old }
     ensures value { AddsTracks added starts.now cache.old cache.new }
@@ -105,7 +105,7 @@ fn begin_range(
 
 // Gives the current range the added tracks, or begins a new range where none is current, and tells
 // of the starts.
-#[tactic(auto, using(crate::proofs::Beginning::begins_some))]
+#[tactic(auto, using(mc_calls::proofs::Beginning::begins_some))]
 fn begin(
     cache: &mut Cache,
     set: Choice,

@@ -3,7 +3,7 @@ ghost use Rattle.std.specs.Prelude.{◌≡◌, ◌≤◌, ◌+◌, length, vec_l
 ghost use Rattle.mc_cache.specs.Cache.{IsCache, count_of, ranges_of};
 ghost use Rattle.mc_cache.specs.Pruning.{back_of};
 ghost use Rattle.mc_cache.specs.Rooms.{HasRoomToJoin};
-ghost use Rattle.mc_demux.specs.Settling.{Settles, TellsJoins, with_drops, with_joins};
+ghost use Rattle.mc_calls.specs.Settling.{Settles, TellsJoins, with_drops, with_joins};
 
 use crate::demux::Records;
 use crate::trim::trim;
@@ -36,7 +36,7 @@ pub(crate) fn tell_drops(by: u32, drops: &Drops, journal: &mut Records)
 }
 
 // Joins the current range with each other one that touches it, and tells each join.
-#[tactic(auto, using(crate::proofs::Roomy::tied_up))]
+#[tactic(auto, using(mc_calls::proofs::Roomy::tied_up))]
 fn join(by: u32, cache: &mut Cache, journal: &mut Records)
     // there is room for the joins and for what is told of them
     requires joins { HasRoomToJoin cache.old }

@@ -46,31 +46,25 @@
 //! | what a reader is told | `dequeue_packet`; its end is `eof` |
 #![tactic(auto)]
 
-mod answer;
 mod asking;
 mod cached;
 mod choosing;
 mod demux;
 mod feeding;
 mod finding;
-mod job;
 mod joining;
-mod law;
 mod opening;
 mod outcomes;
 mod reading;
 mod rooms;
 mod seek;
 mod selecting;
-mod shows;
 mod trim;
 mod viewing;
-mod waiting;
 mod wanting;
 
-pub use answer::{DemuxError, Peek, Reading, Selected, Taken};
 pub use demux::Demux;
-pub use job::Job;
-pub use law::{resting_readers, standing_journals};
-pub use shows::{cached_octets, next_jobs, shown_readers};
-pub use waiting::{Failure, Switch, Target};
+pub use mc_calls::{
+    cached_octets, next_jobs, resting_readers, shown_readers, standing_journals,
+};
+pub use mc_calls::{DemuxError, Failure, Job, Peek, Reading, Selected, Switch, Taken, Target};

@@ -5,16 +5,15 @@ ghost use Rattle.mc_packet.specs.Choices.{is_distinct};
 ghost use Rattle.mc_journal.specs.Films.{Film};
 ghost use Rattle.mc_range.specs.Range.{IsBegun};
 ghost use Rattle.mc_cache.specs.Cache.{IsCache};
-ghost use Rattle.mc_demux.specs.Demuxers.{IsDemux};
-ghost use Rattle.mc_demux.specs.Film.{StandsFor};
-ghost use Rattle.mc_demux.specs.Opening.{HasTracks, MayOpen, Opens, first_starts, no_heads};
-ghost use Rattle.mc_demux.specs.Outcomes.{head_at, heads_at};
+ghost use Rattle.mc_calls.specs.Demuxers.{IsDemux};
+ghost use Rattle.mc_calls.specs.Film.{StandsFor};
+ghost use Rattle.mc_calls.specs.Opening.{HasTracks, MayOpen, Opens, first_starts, no_heads};
+ghost use Rattle.mc_calls.specs.Outcomes.{head_at, heads_at};
 
-use crate::answer::DemuxError;
 use crate::demux::Demux;
 use crate::seek::NOTHING;
-use crate::waiting::Switch;
 use mc_cache::Cache;
+use mc_calls::{DemuxError, Switch};
 use mc_journal::{DRIVER, DemuxRecord};
 use mc_packet::{Choice, Heads, Level, Limits, Mark, NoMemory, Pos, Starts, TrackNo};
 use mc_tracks::TrackList;
@@ -64,7 +63,7 @@ fn first_heads(starts: &Starts) -> Heads
 }
 
 // A cache whose one range begins at these starts.
-#[tactic(auto, using(crate::proofs::Opened::video_at, crate::proofs::Opened::audio_at, crate::proofs::Opened::sub_at, crate::proofs::Opened::begins_there, crate::proofs::Opened::none_beside))]
+#[tactic(auto, using(mc_calls::proofs::Opened::video_at, mc_calls::proofs::Opened::audio_at, mc_calls::proofs::Opened::sub_at, mc_calls::proofs::Opened::begins_there, mc_calls::proofs::Opened::none_beside))]
 fn first_cache(
     alloc: Global,
     set: Choice,

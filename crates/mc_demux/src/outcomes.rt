@@ -2,16 +2,15 @@
 ghost use Rattle.std.specs.Prelude.{◌≡◌, true, is_some, List, ◌++◌, ◌∷◌, [], None};
 ghost use Rattle.mc_journal.specs.Films.{Film};
 ghost use Rattle.mc_journal.specs.declared.record.DemuxRecord.TheVariants.{Failed as FailedRecord, Starved as StarvedRecord};
-ghost use Rattle.mc_demux.specs.declared.waiting.Failure.TheVariants.{Failed, Starved};
-ghost use Rattle.mc_demux.specs.Demuxers.{IsDemux};
-ghost use Rattle.mc_demux.specs.Outcomes.{BringsFailure, Fails, HasRisen, failed_on};
-ghost use Rattle.mc_demux.specs.Film.{StandsFor, failure_record};
-ghost use Rattle.mc_demux.specs.Marks.{AreAmong, marks_of};
+ghost use Rattle.mc_calls.specs.declared.waiting.Failure.TheVariants.{Failed, Starved};
+ghost use Rattle.mc_calls.specs.Demuxers.{IsDemux};
+ghost use Rattle.mc_calls.specs.Outcomes.{BringsFailure, Fails, HasRisen, failed_on};
+ghost use Rattle.mc_calls.specs.Film.{StandsFor, failure_record};
+ghost use Rattle.mc_calls.specs.Marks.{AreAmong, marks_of};
 ghost use Rattle.mc_journal.specs.Callers.{Grew, demuxer};
 
-use crate::answer::Taken;
 use crate::demux::Demux;
-use crate::waiting::Failure;
+use mc_calls::{Failure, Taken};
 use mc_journal::{DEMUXER, DemuxRecord};
 
 fn failure_record(failure: Failure) -> DemuxRecord

@@ -5,18 +5,17 @@ ghost use Rattle.mc_packet.specs.Choices.{has, is_track};
 ghost use Rattle.mc_journal.specs.Films.{Film, rank};
 ghost use Rattle.mc_cache.specs.Cache.{count_of, ranges_of};
 ghost use Rattle.mc_cache.specs.Pruning.{ahead_in};
-ghost use Rattle.mc_demux.specs.State.{DemuxState, end_in, forward_of, head_of, next_in};
-ghost use Rattle.mc_demux.specs.Demuxers.{IsDemux, IsPlaced};
-ghost use Rattle.mc_demux.specs.Readings.{Gives, IsBelow, Reads, ended_after, heads_after, mark_track, past, past_packets, peek_at, reading_of, record_of, waiting_for, with_head, with_track};
-ghost use Rattle.mc_demux.specs.Keeping.{IsRoomy};
-ghost use Rattle.mc_demux.specs.Film.{StandsFor};
-ghost use Rattle.mc_demux.specs.Marks.{AreAmong, marks_of};
+ghost use Rattle.mc_calls.specs.State.{DemuxState, end_in, forward_of, head_of, next_in};
+ghost use Rattle.mc_calls.specs.Demuxers.{IsDemux, IsPlaced};
+ghost use Rattle.mc_calls.specs.Readings.{Gives, IsBelow, Reads, ended_after, heads_after, mark_track, past, past_packets, peek_at, reading_of, record_of, waiting_for, with_head, with_track};
+ghost use Rattle.mc_calls.specs.Keeping.{IsRoomy};
+ghost use Rattle.mc_calls.specs.Film.{StandsFor};
+ghost use Rattle.mc_calls.specs.Marks.{AreAmong, marks_of};
 ghost use Rattle.mc_journal.specs.Callers.{Grew};
 
-use crate::answer::{DemuxError, Peek, Reading};
 use crate::demux::Demux;
 use crate::trim::trim;
-use crate::waiting::Failure;
+use mc_calls::{DemuxError, Failure, Peek, Reading};
 use mc_journal::{DemuxRecord, gave};
 use mc_packet::{Choice, Ending, Heads, NoMemory, Packet, Pos, TrackNo};
 

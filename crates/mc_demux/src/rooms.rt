@@ -1,8 +1,8 @@
 //! Room in the journal for all records of one call.
 ghost use Rattle.std.specs.Prelude.{◌≤◌, ◌+◌, OnOk};
 ghost use Rattle.mc_cache.specs.Cache.{count_of, ranges_of};
-ghost use Rattle.mc_demux.specs.Demuxers.{IsDemux};
-ghost use Rattle.mc_demux.specs.Keeping.{IsRoomy};
+ghost use Rattle.mc_calls.specs.Demuxers.{IsDemux};
+ghost use Rattle.mc_calls.specs.Keeping.{IsRoomy};
 
 use crate::demux::Demux;
 use mc_packet::NoMemory;

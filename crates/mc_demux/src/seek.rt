@@ -5,20 +5,19 @@ ghost use Rattle.mc_packet.specs.Choices.{is_empty};
 ghost use Rattle.mc_journal.specs.Films.{Film};
 ghost use Rattle.mc_cache.specs.Cache.{IsCache, count_of, ranges_of};
 ghost use Rattle.mc_cache.specs.Changing.{heads_in, server};
-ghost use Rattle.mc_demux.specs.Demuxers.{IsDemux};
-ghost use Rattle.mc_demux.specs.Film.{StandsFor};
-ghost use Rattle.mc_demux.specs.Keeping.{IsRoomy};
-ghost use Rattle.mc_demux.specs.Marks.{AreAmong, marks_of};
+ghost use Rattle.mc_calls.specs.Demuxers.{IsDemux};
+ghost use Rattle.mc_calls.specs.Film.{StandsFor};
+ghost use Rattle.mc_calls.specs.Keeping.{IsRoomy};
+ghost use Rattle.mc_calls.specs.Marks.{AreAmong, marks_of};
 ghost use Rattle.mc_journal.specs.Callers.{Grew};
-ghost use Rattle.mc_demux.specs.Seeking.{Goes, IsRefused, Seeks, Turns, heads_or, target_after};
+ghost use Rattle.mc_calls.specs.Seeking.{Goes, IsRefused, Seeks, Turns, heads_or, target_after};
 
-use crate::answer::DemuxError;
 use crate::asking::is_empty;
 use crate::demux::Demux;
 use crate::reading::FULL;
 use crate::trim::trim;
-use crate::waiting::Target;
 use mc_cache::Cache;
+use mc_calls::{DemuxError, Target};
 use mc_journal::{DemuxRecord, Sought};
 use mc_packet::{Choice, Dir, Heads, NoMemory, Why};
 
@@ -40,7 +39,7 @@ fn target_after(t: i64, dir: Dir, how: Sought) -> Option<Target>
 
 // Turns to the range that serves a seek, and the heads to where it is read then; or leaves the
 // current range where none serves.
-#[tactic(auto, using(crate::proofs::Sought::served_by))]
+#[tactic(auto, using(mc_calls::proofs::Sought::served_by))]
 fn turn(cache: &mut Cache, heads: &mut Heads, set: Choice, t: i64, dir: Dir) -> Sought
     ensures value { Turns set t dir result cache.old cache.new }
     ensures how { result ≡ how_by (is_some (server set t dir cache.old)) }

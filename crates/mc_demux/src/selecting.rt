@@ -4,22 +4,21 @@ ghost use Rattle.mc_packet.specs.Choices.{has, is_known};
 ghost use Rattle.mc_journal.specs.Choices.{kept_track};
 ghost use Rattle.mc_journal.specs.Films.{Film};
 ghost use Rattle.mc_cache.specs.Cache.{count_of, ranges_of};
-ghost use Rattle.mc_demux.specs.Demuxers.{IsDemux};
-ghost use Rattle.mc_demux.specs.Film.{StandsFor};
-ghost use Rattle.mc_demux.specs.Marks.{AreAmong, marks_of};
+ghost use Rattle.mc_calls.specs.Demuxers.{IsDemux};
+ghost use Rattle.mc_calls.specs.Film.{StandsFor};
+ghost use Rattle.mc_calls.specs.Marks.{AreAmong, marks_of};
 ghost use Rattle.mc_journal.specs.Callers.{Grew};
 ghost use Rattle.mc_tracks.specs.Selection.{knows};
-ghost use Rattle.mc_demux.specs.Selecting.{Selects, Switches, added_to, sought_again, told_drops, waiting_after};
+ghost use Rattle.mc_calls.specs.Selecting.{Selects, Switches, added_to, sought_again, told_drops, waiting_after};
 
-use crate::answer::{DemuxError, Selected};
 use crate::choosing::{choice_of, refusal_of};
 use crate::demux::{Demux, Records};
 use crate::reading::{FULL, has};
 use crate::seek::NOTHING;
 use crate::trim::trim;
 use crate::viewing::lead_of;
-use crate::waiting::{Switch, Target};
 use mc_cache::Removal;
+use mc_calls::{DemuxError, Selected, Switch, Target};
 use mc_journal::{DemuxRecord, Sought};
 use mc_packet::{Choice, NoMemory, TrackNo};
 

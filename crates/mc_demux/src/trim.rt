@@ -2,7 +2,7 @@
 ghost use Rattle.std.specs.Prelude.{◌≤◌, ◌+◌, vec_len, vec_capacity};
 ghost use Rattle.mc_cache.specs.Cache.{IsCache, count_of, ranges_of};
 ghost use Rattle.mc_cache.specs.Pruning.{back_of};
-ghost use Rattle.mc_demux.specs.Trimming.{Trims};
+ghost use Rattle.mc_calls.specs.Trimming.{Trims};
 
 use crate::demux::Records;
 use mc_cache::Cache;

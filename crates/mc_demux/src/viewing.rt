@@ -5,18 +5,18 @@ ghost use Rattle.mc_packet.specs.Choices.{has, lead_of, passes};
 ghost use Rattle.mc_journal.specs.Choices.{each_of};
 ghost use Rattle.mc_journal.specs.Films.{Film};
 ghost use Rattle.mc_journal.specs.Views.{plays, time_of, view};
-ghost use Rattle.mc_demux.specs.ByJournal.{status_by};
-ghost use Rattle.mc_demux.specs.Demuxers.{IsDemux};
-ghost use Rattle.mc_demux.specs.Film.{StandsFor};
-ghost use Rattle.mc_demux.specs.Keeping.{IsRoomy};
-ghost use Rattle.mc_demux.specs.Marks.{AreAmong, marks_of};
+ghost use Rattle.mc_calls.specs.ByJournal.{status_by};
+ghost use Rattle.mc_calls.specs.Demuxers.{IsDemux};
+ghost use Rattle.mc_calls.specs.Film.{StandsFor};
+ghost use Rattle.mc_calls.specs.Keeping.{IsRoomy};
+ghost use Rattle.mc_calls.specs.Marks.{AreAmong, marks_of};
 ghost use Rattle.mc_journal.specs.Callers.{Grew};
-ghost use Rattle.mc_demux.specs.Viewing.{IsShown, Shows, flags_of, is_ended, play_told, status_of, tells_play, tells_time, time_told, view_of};
+ghost use Rattle.mc_calls.specs.Viewing.{IsShown, Shows, flags_of, is_ended, play_told, status_of, tells_play, tells_time, time_told, view_of};
 
-use crate::answer::DemuxError;
 use crate::asking::is_empty;
 use crate::demux::Demux;
 use crate::reading::{FULL, has, is_track};
+use mc_calls::DemuxError;
 use mc_journal::DemuxRecord;
 use mc_packet::{CacheView, Choice, Ending, NoMemory, Status, TrackNo};
 
@@ -66,7 +66,7 @@ fn newest_play(lead: Option<TrackNo>, journal: &[DemuxRecord]) -> Option<&DemuxR
 
 // The time of the last packet that was given to this track since the last seek or opening, else
 // the seek's target.
-#[tactic(auto, using(crate::proofs::Viewed::time_found))]
+#[tactic(auto, using(mc_calls::proofs::Viewed::time_found))]
 fn time_of(lead: Option<TrackNo>, journal: &[DemuxRecord]) -> Option<i64>
     ensures { result ≡ time_of lead (reverse journal.now) }
 {
@@ -78,7 +78,7 @@ fn time_of(lead: Option<TrackNo>, journal: &[DemuxRecord]) -> Option<i64>
 }
 
 // Whether this track was given a packet or its end since then.
-#[tactic(auto, using(crate::proofs::Viewed::play_found))]
+#[tactic(auto, using(mc_calls::proofs::Viewed::play_found))]
 fn plays(lead: Option<TrackNo>, journal: &[DemuxRecord]) -> bool
     ensures { result ≡ plays lead (reverse journal.now) }
 {

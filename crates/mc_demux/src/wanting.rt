@@ -5,11 +5,11 @@ ghost use Rattle.mc_journal.specs.Choices.{meets};
 ghost use Rattle.mc_journal.specs.Films.{rank};
 ghost use Rattle.mc_packet.specs.declared.packet.Packet.{Packet};
 ghost use Rattle.mc_journal.specs.Views.{wants_more};
-ghost use Rattle.mc_demux.specs.Demuxers.{IsDemux};
-ghost use Rattle.mc_demux.specs.Jobs.{is_full, some_wants, wants};
-ghost use Rattle.mc_demux.specs.Readings.{past};
-ghost use Rattle.mc_demux.specs.State.{head_of};
-ghost use Rattle.mc_demux.specs.Wanting.{held_from, is_near};
+ghost use Rattle.mc_calls.specs.Demuxers.{IsDemux};
+ghost use Rattle.mc_calls.specs.Jobs.{is_full, some_wants, wants};
+ghost use Rattle.mc_calls.specs.Readings.{past};
+ghost use Rattle.mc_calls.specs.State.{head_of};
+ghost use Rattle.mc_calls.specs.Wanting.{held_from, is_near};
 
 use crate::demux::Demux;
 use crate::reading::{head_of, past};
@@ -48,7 +48,7 @@ fn are_near(cache: &Cache, track: TrackNo, head: Pos, first: &Packet, limits: &L
 }
 
 // Whether a track has nothing at a place, or less from there on than is read ahead.
-#[tactic(auto, using(crate::proofs::Nearness::none_near))]
+#[tactic(auto, using(mc_calls::proofs::Nearness::none_near))]
 fn wants_from(cache: &Cache, track: TrackNo, head: Pos) -> bool
     ensures { result
         ≡ wants_more cache.now.limits.readahead (held_from track head cache.now.current) }
@@ -61,7 +61,7 @@ fn wants_from(cache: &Cache, track: TrackNo, head: Pos) -> bool
 }
 
 impl Demux {
-    #[tactic(auto, using(crate::proofs::Nearness::no_head, crate::proofs::Nearness::a_head))]
+    #[tactic(auto, using(mc_calls::proofs::Nearness::no_head, mc_calls::proofs::Nearness::a_head))]
     fn wants(&self, track: TrackNo) -> bool
         ensures { result ≡ wants self.now track }
     {

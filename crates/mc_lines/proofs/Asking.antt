@@ -10,11 +10,11 @@ use Rattle.mc_journal.specs.declared.record.DemuxRecord.{DemuxRecord}
 use Rattle.mc_journal.specs.declared.record.DemuxRecord.TheVariants.{Ended, Overfull, Faulted, Wanting}
 use Rattle.mc_journal.specs.Films.{rank}
 use Rattle.mc_journal.specs.Told.{gave_by}
-use Rattle.mc_demux.specs.declared.answer.DemuxError.{DemuxError}
-use Rattle.mc_demux.specs.declared.answer.DemuxError.TheVariants as errors
-use Rattle.mc_demux.specs.declared.answer.Reading.{Reading}
-use Rattle.mc_demux.specs.declared.answer.Reading.TheVariants as reads
-use Rattle.mc_demux.specs.Records.{WroteAll}
+use Rattle.mc_calls.specs.declared.answer.DemuxError.{DemuxError}
+use Rattle.mc_calls.specs.declared.answer.DemuxError.TheVariants as errors
+use Rattle.mc_calls.specs.declared.answer.Reading.{Reading}
+use Rattle.mc_calls.specs.declared.answer.Reading.TheVariants as reads
+use Rattle.mc_calls.specs.Records.{WroteAll}
 use Rattle.mc_script.specs.declared.acts.Act.TheVariants as acts
 use Rattle.mc_journal.specs.Drives.{Asks, Readings, gaves, is_answer, is_gave, selection}
 use Rattle.mc_script.specs.Plays.{Begins, Leaves, May}

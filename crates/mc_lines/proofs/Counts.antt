@@ -7,7 +7,7 @@ use Rattle.std.proofs.lemmas.List.Folds.{list_any-append}
 use Rattle.mc_journal.specs.declared.record.DemuxRecord.{DemuxRecord}
 use Rattle.mc_journal.specs.declared.record.DemuxRecord.TheVariants.{Dropped, Joined}
 use Rattle.mc_journal.specs.declared.record.Removal.{Removal}
-use Rattle.mc_demux.specs.Records.{IsExtra, WroteAll}
+use Rattle.mc_calls.specs.Records.{IsExtra, WroteAll}
 
 -- a test that no drop and no join passes
 abbrev pub Skips : (DemuxRecord → Bool) → Type 0

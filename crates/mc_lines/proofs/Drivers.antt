@@ -12,11 +12,11 @@ use Rattle.mc_journal.specs.declared.record.Sought.TheVariants.{Cached, Sent}
 use Rattle.mc_journal.specs.declared.record.DemuxRecord.{DemuxRecord}
 use Rattle.mc_journal.specs.declared.record.DemuxRecord.TheVariants.{Opened, Sought, Switched, Found, Dropped, Joined, Shown, Refused}
 use Rattle.mc_journal.specs.Readings.{direction, follows, pending, target}
-use Rattle.mc_demux.specs.declared.answer.DemuxError.{DemuxError}
-use Rattle.mc_demux.specs.declared.answer.DemuxError.TheVariants as errors
-use Rattle.mc_demux.specs.declared.answer.Selected.{Selected}
-use Rattle.mc_demux.specs.declared.answer.Selected.TheVariants.{Same, Changed}
-use Rattle.mc_demux.specs.Records.{IsExtra, WroteAll}
+use Rattle.mc_calls.specs.declared.answer.DemuxError.{DemuxError}
+use Rattle.mc_calls.specs.declared.answer.DemuxError.TheVariants as errors
+use Rattle.mc_calls.specs.declared.answer.Selected.{Selected}
+use Rattle.mc_calls.specs.declared.answer.Selected.TheVariants.{Same, Changed}
+use Rattle.mc_calls.specs.Records.{IsExtra, WroteAll}
 use Rattle.mc_script.specs.declared.acts.Act.{Act}
 use Rattle.mc_script.specs.declared.acts.Act.TheVariants as acts
 use Rattle.mc_script.specs.Plays.{Ends, Leaves, May}

@@ -3,8 +3,8 @@ use Rattle.std.proofs.Common.{◌≡◌, ℕ, Bool, List, subst}
 use Rattle.std.specs.Prelude.{Result}
 use Rattle.mc_packet.specs.declared.choice.Choice.{Choice}
 use Rattle.mc_journal.specs.declared.record.DemuxRecord.{DemuxRecord}
-use Rattle.mc_demux.specs.declared.answer.DemuxError.{DemuxError}
-use Rattle.mc_demux.specs.declared.answer.Reading.{Reading}
+use Rattle.mc_calls.specs.declared.answer.DemuxError.{DemuxError}
+use Rattle.mc_calls.specs.declared.answer.Reading.{Reading}
 use Rattle.mc_journal.specs.Drives.{Readings}
 use Rattle.mc_lines.specs.declared.halt.Halt.{Halt}
 use Rattle.mc_lines.specs.declared.next.Next.{Next}

@@ -6,7 +6,7 @@ use Rattle.std.specs.Prelude.{◌||◌}
 use Rattle.std.specs.List.{list_any, AllByRecursion}
 use Rattle.mc_journal.specs.declared.record.DemuxRecord.{DemuxRecord}
 use Rattle.mc_journal.specs.declared.record.DemuxRecord.TheVariants.{Dropped, Joined, Failed}
-use Rattle.mc_demux.specs.Records.{IsExtra, WroteAll}
+use Rattle.mc_calls.specs.Records.{IsExtra, WroteAll}
 use Rattle.mc_journal.specs.Drives.{is_order, is_outcome}
 use Rattle.mc_lines.specs.Calls.{FailsIn, Jobs, Outcome}
 use Rattle.mc_lines.specs.Lines.{Grows, Orders}

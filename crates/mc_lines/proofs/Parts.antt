@@ -4,7 +4,7 @@ use Rattle.std.proofs.lemmas.List.{append-nil}
 use Rattle.std.specs.List.{AllByRecursion}
 use Rattle.mc_journal.specs.declared.record.DemuxRecord.{DemuxRecord}
 use Rattle.mc_journal.specs.declared.record.DemuxRecord.TheVariants.{Dropped, Joined}
-use Rattle.mc_demux.specs.Records.{IsExtra, WroteAll}
+use Rattle.mc_calls.specs.Records.{IsExtra, WroteAll}
 use Rattle.mc_script.specs.declared.acts.Act.{Act}
 use Rattle.mc_script.specs.Plays.{Begins, May}
 use Rattle.mc_journal.specs.Drives.{Each, EndsUnder, Readings}

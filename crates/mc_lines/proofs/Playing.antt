@@ -8,11 +8,11 @@ use Rattle.std.specs.Prelude.{Option, Some, None, Result, Ok, Err, ◌||◌, not
 use Rattle.std.specs.List.{list_any}
 use Rattle.mc_journal.specs.declared.record.DemuxRecord.{DemuxRecord}
 use Rattle.mc_journal.specs.declared.record.DemuxRecord.TheVariants.{Found, Fed, Failed, Starved}
-use Rattle.mc_demux.specs.declared.answer.DemuxError.{DemuxError}
-use Rattle.mc_demux.specs.declared.answer.DemuxError.TheVariants as errors
-use Rattle.mc_demux.specs.declared.answer.Taken.{Taken}
-use Rattle.mc_demux.specs.declared.answer.Taken.TheVariants as takens
-use Rattle.mc_demux.specs.declared.job.Job.{Job}
+use Rattle.mc_calls.specs.declared.answer.DemuxError.{DemuxError}
+use Rattle.mc_calls.specs.declared.answer.DemuxError.TheVariants as errors
+use Rattle.mc_calls.specs.declared.answer.Taken.{Taken}
+use Rattle.mc_calls.specs.declared.answer.Taken.TheVariants as takens
+use Rattle.mc_calls.specs.declared.job.Job.{Job}
 use Rattle.mc_script.specs.declared.acts.Act.{Act}
 use Rattle.mc_script.specs.declared.acts.Act.TheVariants as acts
 use Rattle.mc_script.specs.Pairing.{IsPaired}

@@ -16,20 +16,20 @@ use Rattle.mc_packet.specs.Choices.{is_empty}
 use Rattle.mc_journal.specs.Films.{rank}
 use Rattle.mc_journal.specs.Readings.{direction, pending, target}
 use Rattle.mc_journal.specs.Told.{gave_by}
-use Rattle.mc_demux.specs.declared.answer.DemuxError.{DemuxError}
-use Rattle.mc_demux.specs.declared.answer.DemuxError.TheVariants as errors
-use Rattle.mc_demux.specs.declared.answer.Selected.{Selected}
-use Rattle.mc_demux.specs.declared.answer.Selected.TheVariants.{Same, Changed}
-use Rattle.mc_demux.specs.declared.answer.Taken.{Taken}
-use Rattle.mc_demux.specs.declared.answer.Taken.TheVariants as takens
-use Rattle.mc_demux.specs.declared.answer.Reading.{Reading}
-use Rattle.mc_demux.specs.declared.answer.Reading.TheVariants as reads
-use Rattle.mc_demux.specs.declared.answer.Peek.{Peek}
-use Rattle.mc_demux.specs.declared.answer.Peek.TheVariants as peeks
-use Rattle.mc_demux.specs.declared.job.Job.{Job}
-use Rattle.mc_demux.specs.declared.job.Job.TheVariants.{SeekTo, Refresh, Resume, Read, Idle}
-use Rattle.mc_demux.specs.Outcomes.{HasRisen}
-use Rattle.mc_demux.specs.Records.{HasRoom, WroteAll}
+use Rattle.mc_calls.specs.declared.answer.DemuxError.{DemuxError}
+use Rattle.mc_calls.specs.declared.answer.DemuxError.TheVariants as errors
+use Rattle.mc_calls.specs.declared.answer.Selected.{Selected}
+use Rattle.mc_calls.specs.declared.answer.Selected.TheVariants.{Same, Changed}
+use Rattle.mc_calls.specs.declared.answer.Taken.{Taken}
+use Rattle.mc_calls.specs.declared.answer.Taken.TheVariants as takens
+use Rattle.mc_calls.specs.declared.answer.Reading.{Reading}
+use Rattle.mc_calls.specs.declared.answer.Reading.TheVariants as reads
+use Rattle.mc_calls.specs.declared.answer.Peek.{Peek}
+use Rattle.mc_calls.specs.declared.answer.Peek.TheVariants as peeks
+use Rattle.mc_calls.specs.declared.job.Job.{Job}
+use Rattle.mc_calls.specs.declared.job.Job.TheVariants.{SeekTo, Refresh, Resume, Read, Idle}
+use Rattle.mc_calls.specs.Outcomes.{HasRisen}
+use Rattle.mc_calls.specs.Records.{HasRoom, WroteAll}
 use Rattle.mc_journal.specs.Drives.{Readings, OfEach, is_order, is_outcome, newest, selection, untold}
 use Rattle.mc_journal.specs.Callers.{by_of, demuxer}
 

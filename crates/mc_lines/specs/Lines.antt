@@ -2,11 +2,11 @@
 use Rattle.std.specs.Prelude.{◌≡◌, ℕ, ◌<◌, ◌≤◌, Bool, true, false, List, ◌++◌, length, Option, Result, Ok, Err, ⊤}
 use Rattle.std.specs.List.{list_any, AllByRecursion}
 use Rattle.mc_journal.specs.declared.record.DemuxRecord.{DemuxRecord}
-use Rattle.mc_demux.specs.declared.answer.DemuxError.{DemuxError}
-use Rattle.mc_demux.specs.declared.answer.DemuxError.TheVariants as errors
-use Rattle.mc_demux.specs.declared.answer.Reading.{Reading}
-use Rattle.mc_demux.specs.declared.answer.Reading.TheVariants as reads
-use Rattle.mc_demux.specs.Records.{HasRoom}
+use Rattle.mc_calls.specs.declared.answer.DemuxError.{DemuxError}
+use Rattle.mc_calls.specs.declared.answer.DemuxError.TheVariants as errors
+use Rattle.mc_calls.specs.declared.answer.Reading.{Reading}
+use Rattle.mc_calls.specs.declared.answer.Reading.TheVariants as reads
+use Rattle.mc_calls.specs.Records.{HasRoom}
 use Rattle.mc_script.specs.declared.acts.Act.{Act}
 use Rattle.mc_script.specs.Plays.{Begins, Leaves}
 use Rattle.mc_journal.specs.Drives.{Readings, is_order, is_outcome}

@@ -11,7 +11,7 @@ use Rattle.mc_outside.specs.declared.sink.SinkError.{SinkError}
 use Rattle.mc_outside.specs.declared.sink.SinkError.TheVariants as faults
 use Rattle.mc_journal.specs.declared.record.DemuxRecord.{DemuxRecord}
 use Rattle.mc_journal.specs.declared.record.DemuxRecord.TheVariants.{Opened, Failed}
-use Rattle.mc_demux.specs.Outcomes.{HasRisen}
+use Rattle.mc_calls.specs.Outcomes.{HasRisen}
 use Rattle.mc_script.specs.declared.exit.Exit.{Exit}
 use Rattle.mc_script.specs.declared.exit.Exit.TheVariants as exits
 use Rattle.mc_script.specs.declared.options.RunLine.{RunLine}

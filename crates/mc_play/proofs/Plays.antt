@@ -19,11 +19,11 @@ use Rattle.mc_cursor.specs.Standing.{StandsFor as CursorStandsFor, plan_for}
 use Rattle.mc_cursor.proofs.Standing.{opening_lies}
 use Rattle.mc_index.specs.declared.index.Index.{Index}
 use Rattle.mc_index.specs.Scans.{IsIndexOf}
-use Rattle.mc_demux.specs.Demuxers.{AreLimits as FitLimits, IsDemux}
-use Rattle.mc_demux.specs.Film.{StandsFor}
-use Rattle.mc_demux.specs.Opening.{HasTracks, IsOpened}
-use Rattle.mc_demux.specs.State.{DemuxState}
-use Rattle.mc_demux.proofs.Laws.{stands_gapless, stands_legal, stands_used}
+use Rattle.mc_calls.specs.Demuxers.{AreLimits as FitLimits, IsDemux}
+use Rattle.mc_calls.specs.Film.{StandsFor}
+use Rattle.mc_calls.specs.Opening.{HasTracks, IsOpened}
+use Rattle.mc_calls.specs.State.{DemuxState}
+use Rattle.mc_calls.proofs.Laws.{stands_gapless, stands_legal, stands_used}
 use Rattle.mc_script.specs.declared.acts.Act.{Act}
 use Rattle.mc_journal.specs.Drives.{Readings, readings}
 use Rattle.mc_script.specs.declared.options.RunLine.{RunLine}

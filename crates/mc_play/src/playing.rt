@@ -11,9 +11,9 @@ ghost use Rattle.mc_play.specs.Opening.{OpensFilm};
 ghost use Rattle.mc_play.specs.Run.{Plays};
 ghost use Rattle.mc_tracks.specs.TrackList.{IsTrackList};
 ghost use Rattle.mc_journal.specs.Films.{Film};
-ghost use Rattle.mc_demux.specs.Demuxers.{IsDemux};
-ghost use Rattle.mc_demux.specs.Film.{StandsFor};
-ghost use Rattle.mc_demux.specs.Opening.{HasTracks, IsOpened};
+ghost use Rattle.mc_calls.specs.Demuxers.{IsDemux};
+ghost use Rattle.mc_calls.specs.Film.{StandsFor};
+ghost use Rattle.mc_calls.specs.Opening.{HasTracks, IsOpened};
 ghost use Rattle.mc_world.specs.Driving.{Drives};
 
 use mc_cursor::Cursor;

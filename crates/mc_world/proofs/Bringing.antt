@@ -9,18 +9,18 @@ use Rattle.mc_range.specs.Range.{RangeState}
 use Rattle.mc_cache.specs.Cache.{mark_in}
 use Rattle.mc_journal.specs.declared.record.DemuxRecord.{DemuxRecord}
 use Rattle.mc_journal.specs.declared.record.DemuxRecord.TheVariants.{Found, Failed as FailedRecord, Starved as StarvedRecord}
-use Rattle.mc_demux.specs.declared.answer.DemuxError.{DemuxError}
-use Rattle.mc_demux.specs.declared.answer.DemuxError.TheVariants as errors
-use Rattle.mc_demux.specs.declared.answer.Taken.{Taken}
-use Rattle.mc_demux.specs.declared.answer.Taken.TheVariants.{Taken as WasTaken, Stale}
-use Rattle.mc_demux.specs.declared.job.Job.{Job}
-use Rattle.mc_demux.specs.declared.job.Job.TheVariants.{SeekTo, Refresh, Resume, Read, Idle}
-use Rattle.mc_demux.specs.declared.waiting.Failure.{Failure}
-use Rattle.mc_demux.specs.declared.waiting.Failure.TheVariants.{Failed, Starved}
-use Rattle.mc_demux.specs.Demuxers.{IsDemux, IsKept, KeepsJob}
-use Rattle.mc_demux.specs.Film.{failure_record}
-use Rattle.mc_demux.specs.Outcomes.{AreStartsFor, Fails, Feeds, Finds, IsStale, PartFits, StartsFit}
-use Rattle.mc_demux.specs.State.{DemuxState}
+use Rattle.mc_calls.specs.declared.answer.DemuxError.{DemuxError}
+use Rattle.mc_calls.specs.declared.answer.DemuxError.TheVariants as errors
+use Rattle.mc_calls.specs.declared.answer.Taken.{Taken}
+use Rattle.mc_calls.specs.declared.answer.Taken.TheVariants.{Taken as WasTaken, Stale}
+use Rattle.mc_calls.specs.declared.job.Job.{Job}
+use Rattle.mc_calls.specs.declared.job.Job.TheVariants.{SeekTo, Refresh, Resume, Read, Idle}
+use Rattle.mc_calls.specs.declared.waiting.Failure.{Failure}
+use Rattle.mc_calls.specs.declared.waiting.Failure.TheVariants.{Failed, Starved}
+use Rattle.mc_calls.specs.Demuxers.{IsDemux, IsKept, KeepsJob}
+use Rattle.mc_calls.specs.Film.{failure_record}
+use Rattle.mc_calls.specs.Outcomes.{AreStartsFor, Fails, Feeds, Finds, IsStale, PartFits, StartsFit}
+use Rattle.mc_calls.specs.State.{DemuxState}
 use Rattle.mc_lines.specs.Calls.{Brings, Outcome, number_of}
 use Rattle.mc_world.specs.declared.brought.Brought.{Brought}
 use Rattle.mc_world.specs.declared.brought.Brought.TheVariants.{Part, Starts, Nothing}

@@ -17,29 +17,29 @@ use Rattle.mc_packet.specs.Choices.{has, is_track}
 use Rattle.mc_journal.specs.declared.record.Sought.{Sought as How}
 use Rattle.mc_journal.specs.declared.record.DemuxRecord.{DemuxRecord}
 use Rattle.mc_journal.specs.declared.record.DemuxRecord.TheVariants.{Sought, Switched, Dropped, Refused as RefusedRecord}
-use Rattle.mc_demux.specs.declared.answer.DemuxError.{DemuxError}
-use Rattle.mc_demux.specs.declared.answer.DemuxError.TheVariants as errors
-use Rattle.mc_demux.specs.declared.answer.Selected.{Selected}
-use Rattle.mc_demux.specs.declared.answer.Selected.TheVariants.{Same, Changed}
-use Rattle.mc_demux.specs.declared.answer.Reading.{Reading}
-use Rattle.mc_demux.specs.declared.answer.Reading.TheVariants as reads
-use Rattle.mc_demux.specs.declared.answer.Peek.{Peek}
-use Rattle.mc_demux.specs.declared.job.Job.{Job}
-use Rattle.mc_demux.specs.declared.job.Job.TheVariants.{SeekTo, Refresh, Resume, Read, Idle}
-use Rattle.mc_demux.specs.declared.waiting.Failure.{Failure}
-use Rattle.mc_demux.specs.declared.waiting.Failure.TheVariants.{Failed, Starved}
-use Rattle.mc_demux.specs.declared.waiting.Target.{Target}
-use Rattle.mc_demux.specs.Asking.{Asks, IsAsked}
-use Rattle.mc_demux.specs.Demuxers.{IsDemux, IsKept, KeepsJob}
-use Rattle.mc_demux.specs.Jobs.{job_of, kept_job}
-use Rattle.mc_demux.specs.Keeping.{IsAsBefore}
-use Rattle.mc_demux.specs.Readings.{Gives, ReadsWith, Reads as DemuxReads, ended_after, heads_after, peek_at, reading_by, reading_of, record_of, waiting_for}
-use Rattle.mc_demux.specs.Records.{HasRoom, IsExtra, IsFull, IsLimitDrop, Wrote, WroteAll}
-use Rattle.mc_demux.specs.Seeking.{IsRefused, Seeks as DemuxSeeks}
-use Rattle.mc_demux.specs.Selecting.{Selects as DemuxSelects, added_to, choice_of, sought_again}
-use Rattle.mc_demux.specs.Shows.{goal_of, is_finish, is_idle_job}
-use Rattle.mc_demux.specs.State.{DemuxState, end_in, first_at, forward_of, head_of, next_in}
-use Rattle.mc_demux.specs.Viewing.{Shows as DemuxShows}
+use Rattle.mc_calls.specs.declared.answer.DemuxError.{DemuxError}
+use Rattle.mc_calls.specs.declared.answer.DemuxError.TheVariants as errors
+use Rattle.mc_calls.specs.declared.answer.Selected.{Selected}
+use Rattle.mc_calls.specs.declared.answer.Selected.TheVariants.{Same, Changed}
+use Rattle.mc_calls.specs.declared.answer.Reading.{Reading}
+use Rattle.mc_calls.specs.declared.answer.Reading.TheVariants as reads
+use Rattle.mc_calls.specs.declared.answer.Peek.{Peek}
+use Rattle.mc_calls.specs.declared.job.Job.{Job}
+use Rattle.mc_calls.specs.declared.job.Job.TheVariants.{SeekTo, Refresh, Resume, Read, Idle}
+use Rattle.mc_calls.specs.declared.waiting.Failure.{Failure}
+use Rattle.mc_calls.specs.declared.waiting.Failure.TheVariants.{Failed, Starved}
+use Rattle.mc_calls.specs.declared.waiting.Target.{Target}
+use Rattle.mc_calls.specs.Asking.{Asks, IsAsked}
+use Rattle.mc_calls.specs.Demuxers.{IsDemux, IsKept, KeepsJob}
+use Rattle.mc_calls.specs.Jobs.{job_of, kept_job}
+use Rattle.mc_calls.specs.Keeping.{IsAsBefore}
+use Rattle.mc_calls.specs.Readings.{Gives, ReadsWith, Reads as DemuxReads, ended_after, heads_after, peek_at, reading_by, reading_of, record_of, waiting_for}
+use Rattle.mc_calls.specs.Records.{HasRoom, IsExtra, IsFull, IsLimitDrop, Wrote, WroteAll}
+use Rattle.mc_calls.specs.Seeking.{IsRefused, Seeks as DemuxSeeks}
+use Rattle.mc_calls.specs.Selecting.{Selects as DemuxSelects, added_to, choice_of, sought_again}
+use Rattle.mc_calls.specs.Shows.{goal_of, is_finish, is_idle_job}
+use Rattle.mc_calls.specs.State.{DemuxState, end_in, first_at, forward_of, head_of, next_in}
+use Rattle.mc_calls.specs.Viewing.{Shows as DemuxShows}
 use Rattle.mc_lines.specs.Calls.{Fails, Peeks, Reads, Seeks, Selects, Shows, Takes, number_of, switch_records}
 use Rattle.mc_world.specs.Machines.{ahead_of, jobs_of, place_of, would_tell}
 use Rattle.mc_filmed.specs.Films.{refused_or}

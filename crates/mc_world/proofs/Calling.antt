@@ -16,25 +16,25 @@ use Rattle.mc_tracks.specs.Selection.{knows}
 use Rattle.mc_range.specs.Range.{RangeState}
 use Rattle.mc_cache.specs.Cache.{CacheState, in_front, ranges_of}
 use Rattle.mc_cache.specs.Changing.{IsSameButRoom, RoomierIn}
-use Rattle.mc_demux.specs.declared.answer.DemuxError.{DemuxError}
-use Rattle.mc_demux.specs.declared.answer.DemuxError.TheVariants.{Refused, JournalFull, NoMemory}
-use Rattle.mc_demux.specs.declared.answer.Reading.{Reading}
-use Rattle.mc_demux.specs.declared.answer.Selected.{Selected}
-use Rattle.mc_demux.specs.declared.answer.Selected.TheVariants.{Same, Changed}
-use Rattle.mc_demux.specs.declared.answer.Taken.{Taken}
-use Rattle.mc_demux.specs.declared.answer.Taken.TheVariants.{Taken as WasTaken, Stale}
-use Rattle.mc_demux.specs.declared.job.Job.{Job}
-use Rattle.mc_demux.specs.declared.waiting.Failure.{Failure}
-use Rattle.mc_demux.specs.declared.waiting.Switch.{Switch}
-use Rattle.mc_demux.specs.Asking.{Asks}
-use Rattle.mc_demux.specs.Film.{StandsFor}
-use Rattle.mc_demux.specs.Marks.{AreAmong, marks_of}
-use Rattle.mc_demux.specs.Outcomes.{Fails}
-use Rattle.mc_demux.specs.Readings.{Reads, ReadsWith, record_of}
-use Rattle.mc_demux.specs.Seeking.{Seeks}
-use Rattle.mc_demux.specs.Selecting.{Selects}
-use Rattle.mc_demux.specs.State.{DemuxState}
-use Rattle.mc_demux.specs.Viewing.{Shows}
+use Rattle.mc_calls.specs.declared.answer.DemuxError.{DemuxError}
+use Rattle.mc_calls.specs.declared.answer.DemuxError.TheVariants.{Refused, JournalFull, NoMemory}
+use Rattle.mc_calls.specs.declared.answer.Reading.{Reading}
+use Rattle.mc_calls.specs.declared.answer.Selected.{Selected}
+use Rattle.mc_calls.specs.declared.answer.Selected.TheVariants.{Same, Changed}
+use Rattle.mc_calls.specs.declared.answer.Taken.{Taken}
+use Rattle.mc_calls.specs.declared.answer.Taken.TheVariants.{Taken as WasTaken, Stale}
+use Rattle.mc_calls.specs.declared.job.Job.{Job}
+use Rattle.mc_calls.specs.declared.waiting.Failure.{Failure}
+use Rattle.mc_calls.specs.declared.waiting.Switch.{Switch}
+use Rattle.mc_calls.specs.Asking.{Asks}
+use Rattle.mc_calls.specs.Film.{StandsFor}
+use Rattle.mc_calls.specs.Marks.{AreAmong, marks_of}
+use Rattle.mc_calls.specs.Outcomes.{Fails}
+use Rattle.mc_calls.specs.Readings.{Reads, ReadsWith, record_of}
+use Rattle.mc_calls.specs.Seeking.{Seeks}
+use Rattle.mc_calls.specs.Selecting.{Selects}
+use Rattle.mc_calls.specs.State.{DemuxState}
+use Rattle.mc_calls.specs.Viewing.{Shows}
 use Rattle.mc_world.specs.Driving.{StandTogether}
 use Rattle.mc_filmed.specs.Films.{film_for}
 use Rattle.mc_world.proofs.Chosen.{lead-listed}

@@ -28,9 +28,9 @@ use Rattle.mc_tracks.specs.Selection.{is_listed_as, is_coded, knows}
 use Rattle.mc_index.specs.Scans.{IsIndexOf, IsPlan}
 use Rattle.mc_range.specs.Range.{RangeState, IsBegun}
 use Rattle.mc_cache.specs.Cache.{in_front}
-use Rattle.mc_demux.specs.State.{DemuxState}
-use Rattle.mc_demux.specs.Film.{StandsFor}
-use Rattle.mc_demux.specs.Opening.{HasTracks, IsOpened, first_starts}
+use Rattle.mc_calls.specs.State.{DemuxState}
+use Rattle.mc_calls.specs.Film.{StandsFor}
+use Rattle.mc_calls.specs.Opening.{HasTracks, IsOpened, first_starts}
 use Rattle.mc_filmed.specs.Films.{film_for}
 use Rattle.mc_world.specs.Driving.{StandTogether}
 use Rattle.mc_world.proofs.Listing.{is-film}

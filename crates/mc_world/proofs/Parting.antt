@@ -22,7 +22,7 @@ use Rattle.mc_journal.proofs.Within.{in_below, within-past, within-whole}
 use Rattle.mc_filmed.specs.Films.{plan_packets, film_for}
 use Rattle.mc_index.specs.Scans.{IsPlan}
 use Rattle.mc_index.proofs.Fronts.{mark-under}
-use Rattle.mc_demux.specs.Film.{IsPartOf}
+use Rattle.mc_calls.specs.Film.{IsPartOf}
 use Rattle.mc_world.proofs.Lying.{IsBehind, IsBefore, all-append, behind-earlier, before-later, walk-behind, part-lies, from_end, walk-parts, in_front-append, Falls, comes-falls}
 
 -- ---- what stands before a mark

@@ -20,15 +20,15 @@ use Rattle.mc_journal.specs.Films.{Film, at as place}
 use Rattle.mc_journal.specs.Readings.{failed, last_fault, selected}
 use Rattle.mc_journal.specs.Used.{IsFailure, IsUsed, IsWant, can_end}
 use Rattle.mc_journal.specs.Views.{next, was_ended}
-use Rattle.mc_demux.specs.declared.job.Job.{Job}
-use Rattle.mc_demux.specs.declared.job.Job.TheVariants.{Idle}
-use Rattle.mc_demux.specs.Film.{StandsFor}
-use Rattle.mc_demux.specs.Readings.{peek_at, reading_of}
-use Rattle.mc_demux.specs.Shows.{is_finish, is_idle_job}
-use Rattle.mc_demux.specs.State.{DemuxState, next_in}
-use Rattle.mc_demux.specs.declared.answer.Peek.{Peek}
-use Rattle.mc_demux.specs.declared.answer.Peek.TheVariants.{Finish}
-use Rattle.mc_demux.proofs.Showing.{front_is, tells_is}
+use Rattle.mc_calls.specs.declared.job.Job.{Job}
+use Rattle.mc_calls.specs.declared.job.Job.TheVariants.{Idle}
+use Rattle.mc_calls.specs.Film.{StandsFor}
+use Rattle.mc_calls.specs.Readings.{peek_at, reading_of}
+use Rattle.mc_calls.specs.Shows.{is_finish, is_idle_job}
+use Rattle.mc_calls.specs.State.{DemuxState, next_in}
+use Rattle.mc_calls.specs.declared.answer.Peek.{Peek}
+use Rattle.mc_calls.specs.declared.answer.Peek.TheVariants.{Finish}
+use Rattle.mc_calls.proofs.Showing.{front_is, tells_is}
 use Rattle.mc_journal.specs.Drives.{OfEach, is_order, readings, selection, still_left, tells_reader, untold}
 use Rattle.mc_journal.specs.Callers.{reader}
 use Rattle.mc_lines.specs.Calls.{AtRest}

@@ -1,11 +1,11 @@
 -- The laws of a driver as a machine.
 use Rattle.std.proofs.Common.{◌≡◌, ℕ, List, refl, sym, subst}
 use Rattle.mc_cursor.specs.Standing.{plan_for}
-use Rattle.mc_demux.proofs.Idling.{idle_is}
-use Rattle.mc_demux.proofs.Laws.{stands_ended}
-use Rattle.mc_demux.proofs.Resting.{rests as demux_rests}
-use Rattle.mc_demux.specs.Demuxers.{IsDemux}
-use Rattle.mc_demux.specs.Jobs.{job_of}
+use Rattle.mc_calls.proofs.Idling.{idle_is}
+use Rattle.mc_calls.proofs.Laws.{stands_ended}
+use Rattle.mc_calls.proofs.Resting.{rests as demux_rests}
+use Rattle.mc_calls.specs.Demuxers.{IsDemux}
+use Rattle.mc_calls.specs.Jobs.{job_of}
 use Rattle.mc_journal.specs.Drives.{Readings, readings}
 use Rattle.mc_lines.specs.Calls.{AtRest, at}
 use Rattle.mc_world.specs.declared.driver.Driver.{Driver}

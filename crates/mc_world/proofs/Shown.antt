@@ -13,17 +13,17 @@ use Rattle.mc_packet.specs.Choices.{lead_of}
 use Rattle.mc_journal.specs.Films.{Film, at as place}
 use Rattle.mc_journal.specs.Readings.{selected}
 use Rattle.mc_journal.specs.Views.{is_idle, next, time_of}
-use Rattle.mc_demux.specs.declared.answer.DemuxError.{DemuxError}
-use Rattle.mc_demux.specs.declared.answer.Reading.{Reading}
-use Rattle.mc_demux.specs.declared.answer.Reading.TheVariants as reads
-use Rattle.mc_demux.specs.Demuxers.{IsDemux}
-use Rattle.mc_demux.specs.Film.{StandsFor}
-use Rattle.mc_demux.specs.Readings.{Gives, Reads as DemuxReads, ended_after, heads_after}
-use Rattle.mc_demux.specs.Shows.{GivesNone, is_idle_job}
-use Rattle.mc_demux.specs.State.{DemuxState, next_in}
-use Rattle.mc_demux.proofs.Showing.{front_is, own_is, pending_is, set_is, tells_is}
-use Rattle.mc_demux.proofs.Idling.{idle_is}
-use Rattle.mc_demux.proofs.Emptied.{quiet_is}
+use Rattle.mc_calls.specs.declared.answer.DemuxError.{DemuxError}
+use Rattle.mc_calls.specs.declared.answer.Reading.{Reading}
+use Rattle.mc_calls.specs.declared.answer.Reading.TheVariants as reads
+use Rattle.mc_calls.specs.Demuxers.{IsDemux}
+use Rattle.mc_calls.specs.Film.{StandsFor}
+use Rattle.mc_calls.specs.Readings.{Gives, Reads as DemuxReads, ended_after, heads_after}
+use Rattle.mc_calls.specs.Shows.{GivesNone, is_idle_job}
+use Rattle.mc_calls.specs.State.{DemuxState, next_in}
+use Rattle.mc_calls.proofs.Showing.{front_is, own_is, pending_is, set_is, tells_is}
+use Rattle.mc_calls.proofs.Idling.{idle_is}
+use Rattle.mc_calls.proofs.Emptied.{quiet_is}
 use Rattle.mc_journal.specs.Drives.{readings}
 use Rattle.mc_lines.specs.Calls.{Ahead, AnswersOn, at}
 use Rattle.mc_world.specs.Machines.{ahead_of, place_of, would_tell}

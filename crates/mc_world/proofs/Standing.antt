@@ -23,19 +23,19 @@ use Rattle.mc_tracks.specs.Selection.{knows}
 use Rattle.mc_index.specs.Scans.{IsIndexOf, IsPlan}
 use Rattle.mc_range.specs.Range.{RangeState}
 use Rattle.mc_cache.specs.Cache.{in_front, mark_in, ranges_of}
-use Rattle.mc_demux.specs.declared.answer.DemuxError.{DemuxError}
-use Rattle.mc_demux.specs.declared.answer.DemuxError.TheVariants.{Refused, JournalFull, NoMemory}
-use Rattle.mc_demux.specs.declared.answer.Taken.{Taken}
-use Rattle.mc_demux.specs.declared.answer.Taken.TheVariants.{Taken as WasTaken, Stale}
-use Rattle.mc_demux.specs.declared.job.Job.{Job}
-use Rattle.mc_demux.specs.declared.job.Job.TheVariants.{SeekTo, Refresh}
-use Rattle.mc_demux.specs.declared.waiting.Failure.{Failure}
-use Rattle.mc_demux.specs.declared.waiting.Switch.{Switch}
-use Rattle.mc_demux.specs.State.{DemuxState}
-use Rattle.mc_demux.specs.Demuxers.{IsDemux, KeepsJob}
-use Rattle.mc_demux.specs.Film.{StandsFor, AreStartsOf, IsPartOf, failure_record}
-use Rattle.mc_demux.specs.Marks.{AreAmong, marks_of}
-use Rattle.mc_demux.specs.Outcomes.{Finds, Feeds, Fails}
+use Rattle.mc_calls.specs.declared.answer.DemuxError.{DemuxError}
+use Rattle.mc_calls.specs.declared.answer.DemuxError.TheVariants.{Refused, JournalFull, NoMemory}
+use Rattle.mc_calls.specs.declared.answer.Taken.{Taken}
+use Rattle.mc_calls.specs.declared.answer.Taken.TheVariants.{Taken as WasTaken, Stale}
+use Rattle.mc_calls.specs.declared.job.Job.{Job}
+use Rattle.mc_calls.specs.declared.job.Job.TheVariants.{SeekTo, Refresh}
+use Rattle.mc_calls.specs.declared.waiting.Failure.{Failure}
+use Rattle.mc_calls.specs.declared.waiting.Switch.{Switch}
+use Rattle.mc_calls.specs.State.{DemuxState}
+use Rattle.mc_calls.specs.Demuxers.{IsDemux, KeepsJob}
+use Rattle.mc_calls.specs.Film.{StandsFor, AreStartsOf, IsPartOf, failure_record}
+use Rattle.mc_calls.specs.Marks.{AreAmong, marks_of}
+use Rattle.mc_calls.specs.Outcomes.{Finds, Feeds, Fails}
 use Rattle.mc_world.specs.declared.brought.Brought.{Brought}
 use Rattle.mc_world.specs.declared.brought.Brought.TheVariants.{Part, Starts, Nothing}
 use Rattle.mc_filmed.specs.Films.{film_for}

@@ -13,8 +13,8 @@ use Rattle.mc_journal.specs.Allowed.{EachStart}
 use Rattle.mc_index.specs.Answers.{AreFor, AreOfBlocks, AreStarts, SeekStarts, SwitchStarts, is_lead}
 use Rattle.mc_filmed.specs.Films.{plan_packets, film_for}
 use Rattle.mc_tracks.specs.Selection.{knows}
-use Rattle.mc_demux.specs.Film.{AreFilmStarts}
-use Rattle.mc_demux.specs.Outcomes.{AreStartsFor}
+use Rattle.mc_calls.specs.Film.{AreFilmStarts}
+use Rattle.mc_calls.specs.Outcomes.{AreStartsFor}
 
 pub are-for : (set : Choice) (s : Starts) → AreFor set s → AreStartsFor set s
 are-for set s h = record { video = h.video; audio = h.audio; sub = h.sub; least = h.least }

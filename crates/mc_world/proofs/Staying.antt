@@ -8,24 +8,24 @@ use Rattle.mc_packet.specs.declared.walk.Chunk.{Chunk}
 use Rattle.mc_journal.specs.declared.record.Sought.{Sought as How}
 use Rattle.mc_journal.specs.declared.record.DemuxRecord.{DemuxRecord}
 use Rattle.mc_walk.specs.declared.plan.Plan.{Plan}
-use Rattle.mc_demux.specs.declared.answer.DemuxError.{DemuxError}
-use Rattle.mc_demux.specs.declared.answer.DemuxError.TheVariants.{Refused, JournalFull, NoMemory}
-use Rattle.mc_demux.specs.declared.answer.Reading.{Reading}
-use Rattle.mc_demux.specs.declared.answer.Selected.{Selected}
-use Rattle.mc_demux.specs.declared.answer.Selected.TheVariants.{Same, Changed}
-use Rattle.mc_demux.specs.declared.answer.Taken.{Taken}
-use Rattle.mc_demux.specs.declared.answer.Taken.TheVariants.{Taken as WasTaken, Stale}
-use Rattle.mc_demux.specs.declared.job.Job.{Job}
-use Rattle.mc_demux.specs.declared.waiting.Failure.{Failure}
-use Rattle.mc_demux.specs.Asking.{Asks}
-use Rattle.mc_demux.specs.Film.{failure_record}
-use Rattle.mc_demux.specs.Keeping.{IsAsBefore}
-use Rattle.mc_demux.specs.Outcomes.{Fails, Feeds, Finds}
-use Rattle.mc_demux.specs.Readings.{Reads, ReadsWith, record_of}
-use Rattle.mc_demux.specs.Seeking.{IsRefused, Seeks}
-use Rattle.mc_demux.specs.Selecting.{Selects}
-use Rattle.mc_demux.specs.State.{DemuxState}
-use Rattle.mc_demux.specs.Viewing.{Shows}
+use Rattle.mc_calls.specs.declared.answer.DemuxError.{DemuxError}
+use Rattle.mc_calls.specs.declared.answer.DemuxError.TheVariants.{Refused, JournalFull, NoMemory}
+use Rattle.mc_calls.specs.declared.answer.Reading.{Reading}
+use Rattle.mc_calls.specs.declared.answer.Selected.{Selected}
+use Rattle.mc_calls.specs.declared.answer.Selected.TheVariants.{Same, Changed}
+use Rattle.mc_calls.specs.declared.answer.Taken.{Taken}
+use Rattle.mc_calls.specs.declared.answer.Taken.TheVariants.{Taken as WasTaken, Stale}
+use Rattle.mc_calls.specs.declared.job.Job.{Job}
+use Rattle.mc_calls.specs.declared.waiting.Failure.{Failure}
+use Rattle.mc_calls.specs.Asking.{Asks}
+use Rattle.mc_calls.specs.Film.{failure_record}
+use Rattle.mc_calls.specs.Keeping.{IsAsBefore}
+use Rattle.mc_calls.specs.Outcomes.{Fails, Feeds, Finds}
+use Rattle.mc_calls.specs.Readings.{Reads, ReadsWith, record_of}
+use Rattle.mc_calls.specs.Seeking.{IsRefused, Seeks}
+use Rattle.mc_calls.specs.Selecting.{Selects}
+use Rattle.mc_calls.specs.State.{DemuxState}
+use Rattle.mc_calls.specs.Viewing.{Shows}
 use Rattle.mc_journal.specs.Drives.{Readings, readings}
 use Rattle.mc_world.specs.declared.brought.Brought.{Brought}
 use Rattle.mc_world.specs.declared.brought.Brought.TheVariants.{Part, Starts, Nothing}

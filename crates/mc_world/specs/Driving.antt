@@ -11,8 +11,8 @@ use Rattle.mc_tracks.specs.Selection.{knows}
 use Rattle.mc_index.specs.Scans.{IsIndexOf}
 use Rattle.mc_range.specs.Range.{RangeState}
 use Rattle.mc_cache.specs.Cache.{ranges_of}
-use Rattle.mc_demux.specs.State.{DemuxState}
-use Rattle.mc_demux.specs.Film.{StandsFor}
+use Rattle.mc_calls.specs.State.{DemuxState}
+use Rattle.mc_calls.specs.Film.{StandsFor}
 use Rattle.mc_world.specs.declared.driver.Driver.{Driver}
 use Rattle.mc_filmed.specs.Films.{film_for}
 

@@ -6,15 +6,15 @@ use Rattle.mc_packet.specs.Choices.{has, lead_of}
 use Rattle.mc_journal.specs.Films.{rank}
 use Rattle.mc_journal.specs.Views.{time_of}
 use Rattle.mc_cursor.specs.Standing.{plan_for}
-use Rattle.mc_demux.specs.declared.answer.DemuxError.{DemuxError}
-use Rattle.mc_demux.specs.declared.answer.Taken.{Taken}
-use Rattle.mc_demux.specs.declared.job.Job.{Job}
-use Rattle.mc_demux.specs.declared.job.Job.TheVariants.{Resume, Read}
-use Rattle.mc_demux.specs.Demuxers.{IsDemux}
-use Rattle.mc_demux.specs.Jobs.{job_of}
-use Rattle.mc_demux.specs.Readings.{peek_at, reading_of}
-use Rattle.mc_demux.specs.Shows.{goal_of, is_finish, is_idle_job}
-use Rattle.mc_demux.specs.State.{DemuxState, next_in}
+use Rattle.mc_calls.specs.declared.answer.DemuxError.{DemuxError}
+use Rattle.mc_calls.specs.declared.answer.Taken.{Taken}
+use Rattle.mc_calls.specs.declared.job.Job.{Job}
+use Rattle.mc_calls.specs.declared.job.Job.TheVariants.{Resume, Read}
+use Rattle.mc_calls.specs.Demuxers.{IsDemux}
+use Rattle.mc_calls.specs.Jobs.{job_of}
+use Rattle.mc_calls.specs.Readings.{peek_at, reading_of}
+use Rattle.mc_calls.specs.Shows.{goal_of, is_finish, is_idle_job}
+use Rattle.mc_calls.specs.State.{DemuxState, next_in}
 use Rattle.mc_journal.specs.Drives.{Readings, readings}
 use Rattle.mc_lines.specs.Calls.{Ahead, AtRest, Fixed, Jobs, at}
 use Rattle.mc_world.specs.declared.brought.Brought.{Brought}

@@ -8,13 +8,13 @@ use Rattle.mc_walk.specs.declared.plan.Plan.{Plan}
 use Rattle.mc_walk.specs.Parts.{chunk_at}
 use Rattle.mc_journal.specs.Films.{Film}
 use Rattle.mc_index.specs.Answers.{AreOfBlocks, SeekStarts, SwitchStarts}
-use Rattle.mc_demux.specs.declared.answer.DemuxError.{DemuxError}
-use Rattle.mc_demux.specs.declared.answer.Taken.{Taken}
-use Rattle.mc_demux.specs.declared.waiting.Failure.{Failure}
-use Rattle.mc_demux.specs.declared.waiting.Failure.TheVariants.{Failed, Starved}
-use Rattle.mc_demux.specs.Film.{AreStartsOf, IsPartOf, failure_record}
-use Rattle.mc_demux.specs.Outcomes.{AreStartsFor, BringsStarts, BringsPart, BringsFailure, HasRisen, Finds, Feeds, Fails}
-use Rattle.mc_demux.specs.State.{DemuxState}
+use Rattle.mc_calls.specs.declared.answer.DemuxError.{DemuxError}
+use Rattle.mc_calls.specs.declared.answer.Taken.{Taken}
+use Rattle.mc_calls.specs.declared.waiting.Failure.{Failure}
+use Rattle.mc_calls.specs.declared.waiting.Failure.TheVariants.{Failed, Starved}
+use Rattle.mc_calls.specs.Film.{AreStartsOf, IsPartOf, failure_record}
+use Rattle.mc_calls.specs.Outcomes.{AreStartsFor, BringsStarts, BringsPart, BringsFailure, HasRisen, Finds, Feeds, Fails}
+use Rattle.mc_calls.specs.State.{DemuxState}
 use Rattle.mc_world.specs.declared.brought.Brought.{Brought}
 use Rattle.mc_world.specs.declared.brought.Brought.TheVariants.{Part, Starts, Nothing}
 

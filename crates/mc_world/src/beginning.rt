@@ -14,10 +14,10 @@ ghost use Rattle.mc_cursor.specs.Standing.{StandsFor as CursorStandsFor, plan_fo
 ghost use Rattle.mc_index.specs.declared.index.Index.{Index};
 ghost use Rattle.mc_filmed.specs.Films.{plan_packets, film_for};
 ghost use Rattle.mc_index.specs.Scans.{IsIndexOf, IsPlan};
-ghost use Rattle.mc_demux.specs.State.{DemuxState};
-ghost use Rattle.mc_demux.specs.Film.{StandsFor};
-ghost use Rattle.mc_demux.specs.Opening.{HasTracks, IsOpened};
-ghost use Rattle.mc_demux.specs.Selecting.{knows};
+ghost use Rattle.mc_calls.specs.State.{DemuxState};
+ghost use Rattle.mc_calls.specs.Film.{StandsFor};
+ghost use Rattle.mc_calls.specs.Opening.{HasTracks, IsOpened};
+ghost use Rattle.mc_calls.specs.Selecting.{knows};
 ghost use Rattle.mc_world.specs.Driving.{StandTogether};
 
 /// The packets of a film of octets are a film's list: their places rise, their lanes are small, and

@@ -3,7 +3,7 @@ ghost use Rattle.std.specs.Prelude.{◌≡◌, ◌≤◌, ℕ, List, Some};
 ghost use Rattle.mc_cursor.specs.Causes.{OnlyReads};
 ghost use Rattle.mc_cursor.specs.Reads.{InFile};
 ghost use Rattle.mc_cursor.specs.Standing.{file_of, mark_of, at_mark};
-ghost use Rattle.mc_demux.specs.Demuxers.{IsDemux};
+ghost use Rattle.mc_calls.specs.Demuxers.{IsDemux};
 ghost use Rattle.mc_lines.specs.Calls.{number_of};
 ghost use Rattle.mc_world.specs.Driving.{Drives};
 ghost use Rattle.mc_world.specs.Machines.{Does, IsPartJob};

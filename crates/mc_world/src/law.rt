@@ -12,7 +12,7 @@ ghost use Rattle.mc_index.specs.Answers.{AreOfBlocks, SeekStarts, SwitchStarts, 
 ghost use Rattle.mc_filmed.specs.Films.{plan_packets, film_for};
 ghost use Rattle.mc_tracks.specs.Selection.{knows};
 ghost use Rattle.mc_index.specs.Scans.{IsPlan};
-ghost use Rattle.mc_demux.specs.Film.{AreFilmStarts, IsPartOf};
+ghost use Rattle.mc_calls.specs.Film.{AreFilmStarts, IsPartOf};
 
 /// The chunk that stands at a mark of a film is a part of the film that a demuxer tells of, and its
 /// end is a mark again.

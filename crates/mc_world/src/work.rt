@@ -9,10 +9,10 @@ ghost use Rattle.mc_cursor.specs.Causes.{OnlyReads};
 ghost use Rattle.mc_cursor.specs.Standing.{OnFilm, StandsFor, plan_for, mark_of, at_mark};
 ghost use Rattle.mc_index.specs.Scans.{OnPlan, StayOn};
 ghost use Rattle.mc_journal.specs.Films.{Film};
-ghost use Rattle.mc_demux.specs.Demuxers.{IsDemux};
-ghost use Rattle.mc_demux.specs.Film.{StandsFor as DemuxStandsFor, failure_record};
-ghost use Rattle.mc_demux.specs.Outcomes.{BringsFailure, Fails};
-ghost use Rattle.mc_demux.specs.Marks.{AreAmong, marks_of};
+ghost use Rattle.mc_calls.specs.Demuxers.{IsDemux};
+ghost use Rattle.mc_calls.specs.Film.{StandsFor as DemuxStandsFor, failure_record};
+ghost use Rattle.mc_calls.specs.Outcomes.{BringsFailure, Fails};
+ghost use Rattle.mc_calls.specs.Marks.{AreAmong, marks_of};
 ghost use Rattle.mc_world.specs.Working.{AreStarts, IsPart, CountsFit, FailureFits, HasRisenIn, AreSeekStarts, AreSwitchStarts, IsChunkAt, Brings, IsOfFilm, Takes, marks_in};
 
 use crate::brought::Brought;

@@ -1,6 +1,6 @@
-use Rattle.mc_demux.specs.Cached.{held_in}
-use Rattle.mc_demux.proofs.Copied.{copies_all, copies_begin, copies_one}
-use Rattle.mc_demux.proofs.Nearness.{test_less}
+use Rattle.mc_calls.specs.Cached.{held_in}
+use Rattle.mc_calls.proofs.Copied.{copies_all, copies_begin, copies_one}
+use Rattle.mc_calls.proofs.Nearness.{test_less}
 use Rattle.mc_demux.proofs.cached.copy_track.Goals as goal
 
 pub loop-packet-init : goal.loop-packet-init

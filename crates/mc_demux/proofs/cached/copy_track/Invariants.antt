@@ -1,6 +1,6 @@
 use Rattle.std.proofs.Common.{◌≡◌, ◌++◌, length}
-use Rattle.mc_demux.specs.Cached.{held_in}
-use Rattle.mc_demux.specs.Wanting.{held_from}
+use Rattle.mc_calls.specs.Cached.{held_in}
+use Rattle.mc_calls.specs.Wanting.{held_from}
 use Rattle.mc_demux.proofs.cached.copy_track.Given as goal
 
 abbrev pub invariant-loop-packet : goal.invariant-loop-packet

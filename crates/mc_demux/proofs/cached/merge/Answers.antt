@@ -1,5 +1,5 @@
-use Rattle.mc_demux.specs.Cached.{is_earlier, merged}
-use Rattle.mc_demux.proofs.Copied.{merges_step}
+use Rattle.mc_calls.specs.Cached.{is_earlier, merged}
+use Rattle.mc_calls.proofs.Copied.{merges_step}
 use Rattle.mc_demux.proofs.cached.merge.Goals as goal
 
 pub loop-packet-preserved : goal.loop-packet-preserved

@@ -1,5 +1,5 @@
 use Rattle.std.proofs.Common.{◌≡◌, ◌++◌, drop}
-use Rattle.mc_demux.specs.Cached.{is_earlier, merged}
+use Rattle.mc_calls.specs.Cached.{is_earlier, merged}
 use Rattle.mc_demux.proofs.cached.merge.Given as goal
 
 abbrev pub invariant-loop-packet : goal.invariant-loop-packet

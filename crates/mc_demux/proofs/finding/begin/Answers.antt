@@ -1,7 +1,7 @@
 use Rattle.std.proofs.Common.{◌≡◌, true, rules}
 use Rattle.std.specs.Prelude.{is_some}
 use Rattle.mc_cache.specs.Cache.{mark_in}
-use Rattle.mc_demux.proofs.Beginning.{added_joins}
+use Rattle.mc_calls.proofs.Beginning.{added_joins}
 use Rattle.mc_demux.proofs.finding.begin.Goals as goal
 
 pub returns-clause-joins : goal.returns-clause-joins

@@ -1,5 +1,5 @@
 use Rattle.std.proofs.Common.{arith}
-use Rattle.mc_demux.proofs.Starting.{few_drops}
+use Rattle.mc_calls.proofs.Starting.{few_drops}
 use Rattle.mc_demux.proofs.finding.begin_range.Goals as goal
 
 pub tell_drops-requires : goal.tell_drops-requires

@@ -1,5 +1,5 @@
 use Rattle.std.proofs.Common.{◌≡◌, ◌+◌, vec_len, vec_capacity, take}
-use Rattle.mc_demux.specs.Settling.{with_drops}
+use Rattle.mc_calls.specs.Settling.{with_drops}
 use Rattle.mc_demux.proofs.joining.tell_drops.Given as goal
 
 abbrev pub invariant-loop-drop : goal.invariant-loop-drop

@@ -1,5 +1,5 @@
 use Rattle.std.proofs.Common.{◌≡◌, ◌+◌, vec_len, vec_capacity}
-use Rattle.mc_demux.specs.Settling.{with_joins}
+use Rattle.mc_calls.specs.Settling.{with_joins}
 use Rattle.mc_demux.proofs.joining.tell_joins.Given as goal
 
 abbrev pub invariant-loop : goal.invariant-loop

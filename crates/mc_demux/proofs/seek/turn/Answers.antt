@@ -3,7 +3,7 @@ use Rattle.std.specs.Prelude.{ℤ}
 use Rattle.std.proofs.lemmas.Int.{to_z-of_z}
 use mir.Syntax.{w64}
 use Rattle.mc_cache.specs.Changing.{heads_in, server}
-use Rattle.mc_demux.proofs.Sought.{unserved_by}
+use Rattle.mc_calls.proofs.Sought.{unserved_by}
 use Rattle.mc_demux.proofs.seek.turn.Goals as goal
 
 pub returns-in-None-clause-how : goal.returns-in-None-clause-how

@@ -1,6 +1,6 @@
 use Rattle.std.proofs.Common.{◌≡◌, ◌≤◌, ◌+◌, ◌++◌, length, take, vec_len}
 use Rattle.std.specs.Prelude.{vec_capacity}
-use Rattle.mc_demux.specs.Selecting.{told_drops}
+use Rattle.mc_calls.specs.Selecting.{told_drops}
 use Rattle.mc_demux.proofs.selecting.write_drops.Given as goal
 
 abbrev pub invariant-loop-drop : goal.invariant-loop-drop

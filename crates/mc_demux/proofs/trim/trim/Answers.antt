@@ -1,7 +1,7 @@
 use Rattle.std.proofs.Common.{◌+◌, ◌≤◌, arith, subst, sym, vec_len}
 use Rattle.std.specs.Prelude.{vec_capacity}
 use Rattle.mc_cache.specs.Cache.{CacheState, count_of, ranges_of}
-use Rattle.mc_demux.proofs.Trimmed.{trim_more, trim_fewer, trim_none}
+use Rattle.mc_calls.proofs.Trimmed.{trim_more, trim_fewer, trim_none}
 use Rattle.mc_demux.proofs.trim.trim.Goals as goal
 
 pub loop-drop-init : goal.loop-drop-init

@@ -1,7 +1,7 @@
 use Rattle.std.proofs.Common.{◌+◌, ◌≤◌, vec_len}
 use Rattle.std.specs.Prelude.{vec_capacity}
 use Rattle.mc_cache.specs.Cache.{IsCache, count_of, ranges_of}
-use Rattle.mc_demux.specs.Trimming.{Trims}
+use Rattle.mc_calls.specs.Trimming.{Trims}
 use Rattle.mc_demux.proofs.trim.trim.Given as goal
 
 abbrev pub invariant-loop-drop : goal.invariant-loop-drop

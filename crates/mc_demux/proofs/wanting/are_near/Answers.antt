@@ -1,6 +1,6 @@
 use Rattle.std.proofs.Common.{◌≡◌, true, false, rules}
-use Rattle.mc_demux.specs.Wanting.{is_near}
-use Rattle.mc_demux.proofs.Nearness.{test_on, test_off, test_end, test_less}
+use Rattle.mc_calls.specs.Wanting.{is_near}
+use Rattle.mc_calls.proofs.Nearness.{test_on, test_off, test_end, test_less}
 use Rattle.mc_demux.proofs.wanting.are_near.Goals as goal
 
 pub returns-then-not-is_near : goal.returns-then-not-is_near

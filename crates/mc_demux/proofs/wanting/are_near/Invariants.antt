@@ -1,6 +1,6 @@
 use Rattle.std.proofs.Common.{◌≡◌, length}
 use Rattle.std.specs.List.{list_all}
-use Rattle.mc_demux.specs.Wanting.{held_from, is_near}
+use Rattle.mc_calls.specs.Wanting.{held_from, is_near}
 use Rattle.mc_demux.proofs.wanting.are_near.Given as goal
 
 abbrev pub invariant-loop-packet : goal.invariant-loop-packet

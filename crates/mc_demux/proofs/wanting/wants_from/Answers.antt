@@ -1,8 +1,8 @@
 use Rattle.std.proofs.Common.{ap, ◌∙◌}
 use Rattle.std.specs.List.{list_all}
 use Rattle.mc_packet.specs.declared.cache.Limits.{Limits}
-use Rattle.mc_demux.specs.Wanting.{held_from, is_near}
-use Rattle.mc_demux.proofs.Nearness.{some_near}
+use Rattle.mc_calls.specs.Wanting.{held_from, is_near}
+use Rattle.mc_calls.proofs.Nearness.{some_near}
 use Rattle.mc_demux.proofs.wanting.wants_from.Goals as goal
 
 pub returns-in-Some : goal.returns-in-Some

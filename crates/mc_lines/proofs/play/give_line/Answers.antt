@@ -1,6 +1,6 @@
 use Rattle.std.proofs.Common.{subst}
 use Rattle.std.specs.Prelude.{Option}
-use Rattle.mc_demux.specs.declared.job.Job.{Job}
+use Rattle.mc_calls.specs.declared.job.Job.{Job}
 use Rattle.mc_lines.specs.Runs.{IsOut}
 use Rattle.mc_lines.proofs.Playing.{given, given_grows}
 use Rattle.mc_lines.proofs.play.give_line.Goals as goal

@@ -1,7 +1,7 @@
 use Rattle.std.proofs.Common.{◌≡◌, List, subst, sym, ◌∙◌}
 use Rattle.mc_tracks.specs.declared.track.Track.{Track}
 use Rattle.mc_tracks.specs.TrackList.{default_choice_of}
-use Rattle.mc_demux.specs.Opening.{HasTracks, IsOpened}
+use Rattle.mc_calls.specs.Opening.{HasTracks, IsOpened}
 use Rattle.mc_play.proofs.Plays.{begins}
 use Rattle.mc_play.proofs.playing.open_driver.Goals as goal
 

@@ -1,7 +1,7 @@
 use Rattle.std.proofs.Common.{◌∙◌, rules, subst}
-use Rattle.mc_demux.specs.State.{DemuxState}
-use Rattle.mc_demux.specs.Demuxers.{IsDemux}
-use Rattle.mc_demux.proofs.Merging.{cached_film}
+use Rattle.mc_calls.specs.State.{DemuxState}
+use Rattle.mc_calls.specs.Demuxers.{IsDemux}
+use Rattle.mc_calls.proofs.Merging.{cached_film}
 use Rattle.mc_demux.proofs.demux.Demux.cached.Goals as goal
 
 pub returns-clause-value : goal.returns-clause-value

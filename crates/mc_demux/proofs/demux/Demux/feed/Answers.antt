@@ -1,14 +1,14 @@
 use Rattle.std.proofs.Common.{◌≡◌, [], ◌∷◌, refl, rules, subst, sym}
-use Rattle.mc_demux.specs.State.{DemuxState}
-use Rattle.mc_demux.specs.Film.{StandsFor}
-use Rattle.mc_demux.specs.Outcomes.{PartFits}
-use Rattle.mc_demux.specs.Records.{HasRoom}
+use Rattle.mc_calls.specs.State.{DemuxState}
+use Rattle.mc_calls.specs.Film.{StandsFor}
+use Rattle.mc_calls.specs.Outcomes.{PartFits}
+use Rattle.mc_calls.specs.Records.{HasRoom}
 use Rattle.mc_journal.specs.Callers.{Grew, demuxer}
-use Rattle.mc_demux.proofs.Takings.{fed_on, feed_keeps, roomy_stands, same_kept, same_mark}
-use Rattle.mc_demux.specs.Marks.{AreAmong, marks_of}
-use Rattle.mc_demux.proofs.Among.{among_more}
-use Rattle.mc_demux.proofs.Remarked.{as_before_among, before_more, part_among}
-use Rattle.mc_demux.proofs.Grown.{before_grew, none_grew, wrote_all_grew}
+use Rattle.mc_calls.proofs.Takings.{fed_on, feed_keeps, roomy_stands, same_kept, same_mark}
+use Rattle.mc_calls.specs.Marks.{AreAmong, marks_of}
+use Rattle.mc_calls.proofs.Among.{among_more}
+use Rattle.mc_calls.proofs.Remarked.{as_before_among, before_more, part_among}
+use Rattle.mc_calls.proofs.Grown.{before_grew, none_grew, wrote_all_grew}
 use Rattle.mc_demux.proofs.demux.Demux.feed.Goals as goal
 
 pub returns-in_err-make_room_to_feed-clause-film : goal.returns-in_err-make_room_to_feed-clause-film

@@ -1,13 +1,13 @@
 use Rattle.std.proofs.Common.{◌≡◌, [], ◌∷◌, refl, rules}
-use Rattle.mc_demux.specs.Keeping.{IsAsBefore}
-use Rattle.mc_demux.specs.Outcomes.{StartsFit}
-use Rattle.mc_demux.specs.Records.{HasRoom}
+use Rattle.mc_calls.specs.Keeping.{IsAsBefore}
+use Rattle.mc_calls.specs.Outcomes.{StartsFit}
+use Rattle.mc_calls.specs.Records.{HasRoom}
 use Rattle.mc_journal.specs.Callers.{demuxer}
-use Rattle.mc_demux.proofs.Takings.{before_both, find_keeps, found_on, roomy_stands, same_kept}
-use Rattle.mc_demux.specs.Marks.{marks_of}
-use Rattle.mc_demux.proofs.Among.{among_more}
-use Rattle.mc_demux.proofs.Remarked.{as_before_among, before_more, starts_among}
-use Rattle.mc_demux.proofs.Grown.{before_grew, none_grew, wrote_all_grew}
+use Rattle.mc_calls.proofs.Takings.{before_both, find_keeps, found_on, roomy_stands, same_kept}
+use Rattle.mc_calls.specs.Marks.{marks_of}
+use Rattle.mc_calls.proofs.Among.{among_more}
+use Rattle.mc_calls.proofs.Remarked.{as_before_among, before_more, starts_among}
+use Rattle.mc_calls.proofs.Grown.{before_grew, none_grew, wrote_all_grew}
 use Rattle.mc_journal.specs.declared.record.DemuxRecord.TheVariants.{Found}
 use Rattle.mc_demux.proofs.demux.Demux.found.Goals as goal
 

@@ -2,11 +2,11 @@ use Rattle.std.proofs.Common.{◌≡◌, ◌-◌, ◌≤◌, List, arith, rules,
 use Rattle.std.specs.Prelude.{vec_capacity}
 use Rattle.mc_journal.specs.declared.record.DemuxRecord.{DemuxRecord}
 use Rattle.mc_cache.specs.Pruning.{ahead_in}
-use Rattle.mc_demux.specs.State.{DemuxState, forward_of}
-use Rattle.mc_demux.specs.Demuxers.{IsPlaced}
-use Rattle.mc_demux.specs.Trimming.{Trims}
-use Rattle.mc_demux.proofs.Answering.{gives_now}
-use Rattle.mc_demux.proofs.Readers.{gives_is}
+use Rattle.mc_calls.specs.State.{DemuxState, forward_of}
+use Rattle.mc_calls.specs.Demuxers.{IsPlaced}
+use Rattle.mc_calls.specs.Trimming.{Trims}
+use Rattle.mc_calls.proofs.Answering.{gives_now}
+use Rattle.mc_calls.proofs.Readers.{gives_is}
 use Rattle.mc_demux.proofs.demux.Demux.give.Goals as goal
 
 pub invariant_of-self : goal.invariant_of-self

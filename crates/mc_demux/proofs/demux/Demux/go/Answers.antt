@@ -1,8 +1,8 @@
 use Rattle.std.proofs.Common.{w64, to_z, of_z, ◌≡◌, ◌+◌, ◌≤◌, arith, rules, length, vec_len, subst, sym, refl}
 use Rattle.mc_journal.specs.declared.record.DemuxRecord.TheVariants.{Sought}
 use Rattle.mc_cache.specs.Cache.{count_of, ranges_of}
-use Rattle.mc_demux.specs.State.{DemuxState}
-use Rattle.mc_demux.proofs.Sought.{goes_is, goes_told, turned_fewer}
+use Rattle.mc_calls.specs.State.{DemuxState}
+use Rattle.mc_calls.proofs.Sought.{goes_is, goes_told, turned_fewer}
 use mir.Val.{SFits}
 use Rattle.std.proofs.lemmas.Int.{to_z-of_z}
 use Rattle.mc_packet.specs.Choices.{nothing}

@@ -1,4 +1,4 @@
-use Rattle.mc_demux.proofs.Jobs.{keep_inside}
+use Rattle.mc_calls.proofs.Jobs.{keep_inside}
 use Rattle.mc_demux.proofs.demux.Demux.keep.Goals as goal
 
 pub invariant_of-self : goal.invariant_of-self

@@ -1,5 +1,5 @@
 use Rattle.std.proofs.Common.{arith}
-use Rattle.mc_demux.proofs.Telling.{few_held}
+use Rattle.mc_calls.proofs.Telling.{few_held}
 use Rattle.mc_demux.proofs.demux.Demux.make_room.Goals as goal
 
 pub overflow_add-held : goal.overflow_add-held

@@ -1,5 +1,5 @@
 use Rattle.std.proofs.Common.{arith}
-use Rattle.mc_demux.proofs.Roomy.{roomy_is}
+use Rattle.mc_calls.proofs.Roomy.{roomy_is}
 use Rattle.mc_demux.proofs.demux.Demux.make_room_to_find.Goals as goal
 
 pub invariant_of-self : goal.invariant_of-self

@@ -2,9 +2,9 @@ use Rattle.std.proofs.Common.{ap, ◌∙◌, ◌++◌, ◌∷◌, [], List, refl
 use Rattle.mc_packet.specs.declared.choice.Starts.{Starts}
 use Rattle.mc_journal.specs.declared.record.DemuxRecord.{DemuxRecord}
 use Rattle.mc_journal.specs.declared.record.DemuxRecord.TheVariants.{Opened}
-use Rattle.mc_demux.specs.Opening.{no_heads}
-use Rattle.mc_demux.specs.Outcomes.{heads_at}
-use Rattle.mc_demux.proofs.Opened.{made_is, made_stands}
+use Rattle.mc_calls.specs.Opening.{no_heads}
+use Rattle.mc_calls.specs.Outcomes.{heads_at}
+use Rattle.mc_calls.proofs.Opened.{made_is, made_stands}
 use Rattle.mc_packet.specs.Choices.{nothing}
 use Rattle.mc_demux.proofs.demux.Demux.new.Goals as goal
 

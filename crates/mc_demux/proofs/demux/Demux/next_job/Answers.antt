@@ -1,8 +1,8 @@
 use Rattle.std.proofs.Common.{ap, ◌∙◌}
-use Rattle.mc_demux.specs.State.{DemuxState}
-use Rattle.mc_demux.proofs.Among.{among_same, among_self}
-use Rattle.mc_demux.proofs.Remarked.{spare_among}
-use Rattle.mc_demux.proofs.Grown.{journal_grew, none_grew, roomy_grew}
+use Rattle.mc_calls.specs.State.{DemuxState}
+use Rattle.mc_calls.proofs.Among.{among_same, among_self}
+use Rattle.mc_calls.proofs.Remarked.{spare_among}
+use Rattle.mc_calls.proofs.Grown.{journal_grew, none_grew, roomy_grew}
 use Rattle.mc_demux.proofs.demux.Demux.next_job.Goals as goal
 
 pub returns-then-len-ge-FULL-clause-marks : goal.returns-then-len-ge-FULL-clause-marks

@@ -1,11 +1,11 @@
 use Rattle.std.proofs.Common.{ap, rules, sym, subst}
-use Rattle.mc_demux.specs.State.{DemuxState}
-use Rattle.mc_demux.specs.Demuxers.{IsDemux}
-use Rattle.mc_demux.specs.Records.{HasRoom}
-use Rattle.mc_demux.specs.Readings.{heads_after, ended_after}
-use Rattle.mc_demux.proofs.Telling.{read_told, tell_keeps}
-use Rattle.mc_demux.proofs.Among.{among_self, among_same, gives-among}
-use Rattle.mc_demux.proofs.Grown.{none_grew, roomy_grew, told_grew}
+use Rattle.mc_calls.specs.State.{DemuxState}
+use Rattle.mc_calls.specs.Demuxers.{IsDemux}
+use Rattle.mc_calls.specs.Records.{HasRoom}
+use Rattle.mc_calls.specs.Readings.{heads_after, ended_after}
+use Rattle.mc_calls.proofs.Telling.{read_told, tell_keeps}
+use Rattle.mc_calls.proofs.Among.{among_self, among_same, gives-among}
+use Rattle.mc_calls.proofs.Grown.{none_grew, roomy_grew, told_grew}
 use Rattle.mc_demux.proofs.demux.Demux.read.Goals as goal
 
 pub returns-in_ok-tell-in-Some-clause-value : goal.returns-in_ok-tell-in-Some-clause-value

@@ -5,14 +5,14 @@ use Rattle.mc_packet.specs.declared.choice.Choice.{Choice}
 use Rattle.mc_packet.specs.declared.choice.Why.TheVariants.{NoTrack}
 use Rattle.mc_packet.specs.Choices.{is_empty}
 use Rattle.mc_journal.specs.Readings.{selected}
-use Rattle.mc_demux.specs.State.{DemuxState}
-use Rattle.mc_demux.specs.Demuxers.{IsDemux}
-use Rattle.mc_demux.specs.Records.{HasRoom}
-use Rattle.mc_demux.specs.Seeking.{Goes}
-use Rattle.mc_demux.proofs.Turned.{goes_keeps, refused_keeps, roomy_goes}
-use Rattle.mc_demux.proofs.Among.{among_same, among_self}
-use Rattle.mc_demux.proofs.Remarked.{goes_among, spare_among}
-use Rattle.mc_demux.proofs.Grown.{none_grew, refused_grew, roomy_grew, wrote_grew}
+use Rattle.mc_calls.specs.State.{DemuxState}
+use Rattle.mc_calls.specs.Demuxers.{IsDemux}
+use Rattle.mc_calls.specs.Records.{HasRoom}
+use Rattle.mc_calls.specs.Seeking.{Goes}
+use Rattle.mc_calls.proofs.Turned.{goes_keeps, refused_keeps, roomy_goes}
+use Rattle.mc_calls.proofs.Among.{among_same, among_self}
+use Rattle.mc_calls.proofs.Remarked.{goes_among, spare_among}
+use Rattle.mc_calls.proofs.Grown.{none_grew, refused_grew, roomy_grew, wrote_grew}
 use Rattle.mc_journal.specs.declared.record.DemuxRecord.TheVariants.{Sought}
 use Rattle.mc_demux.proofs.demux.Demux.seek.Goals as goal
 

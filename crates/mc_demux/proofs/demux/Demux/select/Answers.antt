@@ -5,20 +5,20 @@ use Rattle.std.proofs.lemmas.Int.{to_z-of_z}
 use Rattle.mc_packet.specs.declared.choice.Choice.{Choice}
 use Rattle.mc_tracks.specs.declared.track.Track.{Track}
 use Rattle.mc_packet.specs.Choices.{is_known}
-use Rattle.mc_demux.specs.State.{DemuxState}
-use Rattle.mc_demux.specs.Demuxers.{IsDemux}
-use Rattle.mc_demux.specs.Records.{HasRoom}
+use Rattle.mc_calls.specs.State.{DemuxState}
+use Rattle.mc_calls.specs.Demuxers.{IsDemux}
+use Rattle.mc_calls.specs.Records.{HasRoom}
 use Rattle.mc_journal.specs.Callers.{Grew}
 use Rattle.mc_tracks.specs.Selection.{choice_of, knows, refusal_of}
-use Rattle.mc_demux.specs.Selecting.{Switches}
-use Rattle.mc_demux.proofs.Known.{choice_known}
-use Rattle.mc_demux.proofs.Switched.{differ, roomy_switches}
-use Rattle.mc_demux.proofs.Reselected.{refusal_told, switch_keeps}
-use Rattle.mc_demux.proofs.Turned.{refused_keeps}
-use Rattle.mc_demux.specs.Marks.{AreAmong, marks_of}
-use Rattle.mc_demux.proofs.Among.{among_same, among_self}
-use Rattle.mc_demux.proofs.Remarked.{spare_among, switches_among}
-use Rattle.mc_demux.proofs.Grown.{none_grew, refused_grew, roomy_grew, switches_grew}
+use Rattle.mc_calls.specs.Selecting.{Switches}
+use Rattle.mc_calls.proofs.Known.{choice_known}
+use Rattle.mc_calls.proofs.Switched.{differ, roomy_switches}
+use Rattle.mc_calls.proofs.Reselected.{refusal_told, switch_keeps}
+use Rattle.mc_calls.proofs.Turned.{refused_keeps}
+use Rattle.mc_calls.specs.Marks.{AreAmong, marks_of}
+use Rattle.mc_calls.proofs.Among.{among_same, among_self}
+use Rattle.mc_calls.proofs.Remarked.{spare_among, switches_among}
+use Rattle.mc_calls.proofs.Grown.{none_grew, refused_grew, roomy_grew, switches_grew}
 use Rattle.mc_demux.proofs.demux.Demux.select.Goals as goal
 
 pub switch-requires-clause-known : goal.switch-requires-clause-known

@@ -1,10 +1,10 @@
 use Rattle.std.proofs.Common.{ap, refl, ◌∙◌}
-use Rattle.mc_demux.proofs.Viewed.{shown_keeps}
-use Rattle.mc_demux.proofs.Among.{among_same, among_self}
-use Rattle.mc_demux.proofs.Remarked.{spare_among}
-use Rattle.mc_demux.proofs.Grown.{none_grew, one_grew, roomy_grew}
+use Rattle.mc_calls.proofs.Viewed.{shown_keeps}
+use Rattle.mc_calls.proofs.Among.{among_same, among_self}
+use Rattle.mc_calls.proofs.Remarked.{spare_among}
+use Rattle.mc_calls.proofs.Grown.{none_grew, one_grew, roomy_grew}
 use Rattle.mc_journal.specs.declared.record.DemuxRecord.TheVariants.{Shown}
-use Rattle.mc_demux.specs.State.{DemuxState}
+use Rattle.mc_calls.specs.State.{DemuxState}
 use Rattle.mc_demux.proofs.demux.Demux.show.Goals as goal
 
 pub returns-clause-film : goal.returns-clause-film

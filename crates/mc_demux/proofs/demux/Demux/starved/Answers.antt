@@ -1,10 +1,10 @@
 use Rattle.std.proofs.Common.{◌≡◌, true, is_some, ap, refl, rules, subst}
-use Rattle.mc_demux.specs.declared.waiting.Failure.TheVariants.{Starved}
-use Rattle.mc_demux.specs.State.{DemuxState}
-use Rattle.mc_demux.specs.Demuxers.{IsDemux}
-use Rattle.mc_demux.proofs.Failing.{stop_keeps}
-use Rattle.mc_demux.proofs.Among.{among_same, among_self}
-use Rattle.mc_demux.proofs.Grown.{none_grew, one_grew}
+use Rattle.mc_calls.specs.declared.waiting.Failure.TheVariants.{Starved}
+use Rattle.mc_calls.specs.State.{DemuxState}
+use Rattle.mc_calls.specs.Demuxers.{IsDemux}
+use Rattle.mc_calls.proofs.Failing.{stop_keeps}
+use Rattle.mc_calls.proofs.Among.{among_same, among_self}
+use Rattle.mc_calls.proofs.Grown.{none_grew, one_grew}
 use Rattle.mc_journal.specs.declared.record.DemuxRecord.TheVariants.{Starved as StarvedRecord}
 use Rattle.mc_journal.specs.Callers.{demuxer}
 use Rattle.mc_demux.proofs.demux.Demux.starved.Goals as goal

@@ -6,11 +6,11 @@ use Rattle.mc_journal.specs.declared.record.Removal.{Removal}
 use Rattle.mc_packet.specs.Choices.{is_known, nothing}
 use Rattle.mc_cache.specs.Cache.{count_of, ranges_of}
 use Rattle.mc_tracks.specs.Selection.{knows}
-use Rattle.mc_demux.specs.Selecting.{added_to}
-use Rattle.mc_demux.specs.State.{DemuxState}
-use Rattle.mc_demux.proofs.Known.{known_distinct}
-use Rattle.mc_demux.proofs.Lost.{few_told, left_counts, switched_inside}
-use Rattle.mc_demux.proofs.Switched.{switches_now}
+use Rattle.mc_calls.specs.Selecting.{added_to}
+use Rattle.mc_calls.specs.State.{DemuxState}
+use Rattle.mc_calls.proofs.Known.{known_distinct}
+use Rattle.mc_calls.proofs.Lost.{few_told, left_counts, switched_inside}
+use Rattle.mc_calls.proofs.Switched.{switches_now}
 use Rattle.mc_demux.proofs.demux.Demux.switch.Goals as goal
 
 pub retrack-requires : goal.retrack-requires

@@ -2,10 +2,10 @@ use Rattle.std.proofs.Common.{◌≡◌, ◌+◌, ◌≤◌, List, arith, rules,
 use Rattle.std.specs.Prelude.{IsSomeAnd}
 use Rattle.mc_journal.specs.declared.record.DemuxRecord.{DemuxRecord}
 use Rattle.mc_cache.specs.Cache.{count_of, ranges_of}
-use Rattle.mc_demux.specs.State.{DemuxState}
-use Rattle.mc_demux.specs.Outcomes.{PartFits}
-use Rattle.mc_demux.specs.Settling.{Settles}
-use Rattle.mc_demux.proofs.Parts.{fits, fed_cache, part_is, takes_now}
+use Rattle.mc_calls.specs.State.{DemuxState}
+use Rattle.mc_calls.specs.Outcomes.{PartFits}
+use Rattle.mc_calls.specs.Settling.{Settles}
+use Rattle.mc_calls.proofs.Parts.{fits, fed_cache, part_is, takes_now}
 use Rattle.mc_demux.proofs.demux.Demux.take_part.Goals as goal
 
 pub feed-requires-clause-fits : goal.feed-requires-clause-fits

@@ -2,9 +2,9 @@ use Rattle.std.proofs.Common.{◌≡◌, ◌+◌, ◌≤◌, List, ap, arith, ru
 use Rattle.std.specs.Prelude.{IsSomeAnd}
 use Rattle.mc_journal.specs.declared.record.DemuxRecord.{DemuxRecord}
 use Rattle.mc_cache.specs.Cache.{count_of, ranges_of}
-use Rattle.mc_demux.specs.State.{DemuxState}
-use Rattle.mc_demux.specs.Outcomes.{StartsFit}
-use Rattle.mc_demux.proofs.Beginning.{begun, may_begin, starts_is, untold_is}
+use Rattle.mc_calls.specs.State.{DemuxState}
+use Rattle.mc_calls.specs.Outcomes.{StartsFit}
+use Rattle.mc_calls.proofs.Beginning.{begun, may_begin, starts_is, untold_is}
 use Rattle.mc_demux.proofs.demux.Demux.take_starts.Goals as goal
 
 pub begin-requires-clause-may : goal.begin-requires-clause-may

@@ -1,10 +1,10 @@
 use Rattle.std.proofs.Common.{◌≤◌, subst, sym, ap, ◌∙◌}
 use Rattle.mc_packet.specs.declared.cache.Heads.{Heads}
 use Rattle.mc_cache.specs.Pruning.{ahead_in}
-use Rattle.mc_demux.specs.State.{DemuxState, forward_of}
-use Rattle.mc_demux.specs.Demuxers.{IsPlaced}
-use Rattle.mc_demux.specs.Readings.{reading_of}
-use Rattle.mc_demux.proofs.Telling.{read_placed, read_ahead}
+use Rattle.mc_calls.specs.State.{DemuxState, forward_of}
+use Rattle.mc_calls.specs.Demuxers.{IsPlaced}
+use Rattle.mc_calls.specs.Readings.{reading_of}
+use Rattle.mc_calls.proofs.Telling.{read_placed, read_ahead}
 use Rattle.mc_demux.proofs.demux.Demux.tell.Goals as goal
 
 pub give-requires-clause-placed : goal.give-requires-clause-placed

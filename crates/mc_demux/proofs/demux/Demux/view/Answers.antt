@@ -1,8 +1,8 @@
 use Rattle.std.proofs.Common.{◌∙◌, rules, subst}
 use Rattle.mc_cache.specs.Placed.{AllFramed}
-use Rattle.mc_demux.specs.State.{DemuxState}
-use Rattle.mc_demux.specs.Demuxers.{IsDemux}
-use Rattle.mc_demux.proofs.Viewed.{view_stands}
+use Rattle.mc_calls.specs.State.{DemuxState}
+use Rattle.mc_calls.specs.Demuxers.{IsDemux}
+use Rattle.mc_calls.proofs.Viewed.{view_stands}
 use Rattle.mc_demux.proofs.demux.Demux.view.Goals as goal
 
 pub returns-clause-value : goal.returns-clause-value

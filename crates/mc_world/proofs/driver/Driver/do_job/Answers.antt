@@ -2,8 +2,8 @@ use Rattle.std.proofs.Common.{◌≡◌, ap, subst, ◌∙◌, Some, SFits, w64,
 use Rattle.std.proofs.lemmas.Int.{to_z-of_z}
 use Rattle.mc_cursor.specs.Standing.{plan_for}
 use Rattle.mc_index.specs.Scans.{IsIndexOf}
-use Rattle.mc_demux.specs.declared.job.Job.{Job}
-use Rattle.mc_demux.specs.declared.job.Job.TheVariants.{SeekTo, Refresh}
+use Rattle.mc_calls.specs.declared.job.Job.{Job}
+use Rattle.mc_calls.specs.declared.job.Job.TheVariants.{SeekTo, Refresh}
 use Rattle.mc_filmed.specs.Films.{film_for}
 use Rattle.mc_world.specs.Working.{AreSeekStarts, AreSwitchStarts}
 use Rattle.mc_world.proofs.Standing.{added-is, brought-stands, film-plan, same-plan, seek-is}

@@ -2,7 +2,7 @@ use Rattle.std.proofs.Common.{ap, refl}
 use Rattle.mc_cursor.specs.declared.cursor.Cursor.{Cursor}
 use Rattle.mc_cursor.specs.Standing.{plan_for}
 use Rattle.mc_journal.specs.declared.record.DemuxRecord.TheVariants.{Starved as StarvedRecord}
-use Rattle.mc_demux.specs.declared.waiting.Failure.TheVariants.{Starved}
+use Rattle.mc_calls.specs.declared.waiting.Failure.TheVariants.{Starved}
 use Rattle.mc_filmed.specs.Films.{film_for}
 use Rattle.mc_world.proofs.Calling.{fails-stands}
 use Rattle.mc_world.proofs.Ruling.{stands_on}

@@ -48,7 +48,6 @@
 
 mod asking;
 mod cached;
-mod choosing;
 mod demux;
 mod feeding;
 mod finding;
@@ -65,6 +64,6 @@ mod wanting;
 
 pub use demux::Demux;
 pub use mc_calls::{
-    cached_octets, next_jobs, resting_readers, shown_readers, standing_journals,
+    DemuxError, Failure, Job, Peek, Reading, Selected, Switch, Taken, Target, cached_octets,
+    next_jobs, resting_readers, shown_readers, standing_journals,
 };
-pub use mc_calls::{DemuxError, Failure, Job, Peek, Reading, Selected, Switch, Taken, Target};

@@ -11,7 +11,6 @@ ghost use Rattle.mc_journal.specs.Callers.{Grew};
 ghost use Rattle.mc_tracks.specs.Selection.{knows};
 ghost use Rattle.mc_calls.specs.Selecting.{Selects, Switches, added_to, sought_again, told_drops, waiting_after};
 
-use crate::choosing::{choice_of, refusal_of};
 use crate::demux::{Demux, Records};
 use crate::reading::{FULL, has};
 use crate::seek::NOTHING;
@@ -166,11 +165,11 @@ impl Demux {
         if self.journal.len() >= FULL {
             return Err(DemuxError::JournalFull);
         }
-        if let Some(why) = refusal_of(&self.list, set) {
+        if let Some(why) = self.list.refusal_of(set) {
             self.refuse(by, why)?;
             return Err(DemuxError::Refused(why));
         }
-        let chosen = choice_of(&self.list, set);
+        let chosen = self.list.choice_of(set);
         if chosen == self.set {
             return Ok(Selected::Same);
         }

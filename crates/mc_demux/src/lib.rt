@@ -19,14 +19,15 @@
 //! }
 //! ```
 //!
-//! Each call has three clauses beside others. `value`, by the definition in `specs/` that bears its
-//! name (`Seeks`, `Selects`, `Asks`, `Finds`, `Feeds`, `Fails`, `Reads`, `Shows`), fixes its answer and
-//! what it leaves: by which steps the cache came about, which records were written, and all else.
-//! `grows`: what it wrote bears its caller's number. `film`: whatever film the demuxer stood for
-//! (`specs/Film`), it stands for it afterwards, where what was brought is of that film. What follows
-//! for readers are the laws [`standing_journals`], [`resting_readers`] and [`shown_readers`]; that what
-//! is cached and which job comes next follow from the journal, [`cached_octets`] and [`next_jobs`].
-//! What is cached is handed out as packets by [`Demux::cached`].
+//! The definitions of what a call leaves stand in the crate [`mc_calls`]. Each call has three clauses
+//! beside others. `value`, by the definition that bears its name (`Seeks`, `Selects`, `Asks`, `Finds`,
+//! `Feeds`, `Fails`, `Reads`, `Shows`), fixes its answer and what it leaves: by which steps the cache
+//! came about, which records were written, and all else. `grows`: what it wrote bears its caller's
+//! number. `film`: whatever film the demuxer stood for (`StandsFor`), it stands for it afterwards, where
+//! what was brought is of that film. What follows for readers are the laws [`standing_journals`],
+//! [`resting_readers`] and [`shown_readers`]; that what is cached and which job comes next follow from
+//! the journal, [`cached_octets`] and [`next_jobs`]. What is cached is handed out as packets by
+//! [`Demux::cached`].
 //!
 //! Whoever knows mpv's `demux.c` finds there, under these names:
 //!

@@ -6,7 +6,7 @@
 # memory to read on is told to the readers, and the script goes on.
 # Then, where 'rt ci' or 'rt run' built them, the programs of rows: behind the line '# patient' a row that
 # found no memory is called once more, and has to answer then what it always answers, so the first call left
-# all as it was. Each run has to print all that is wanted, or to end with status 1 and a front of it in whole
+# all as it was. Each run has to print all that an undisturbed one does, or to end with status 1 and a front of it in whole
 # lines, where memory was wanting for a line or its answer.
 # Usage: tests/refused_memory.sh [N...]; without N it takes all requests of each run. It needs a C
 # compiler, and is no part of .ci/run. 'rt try --fail-alloc N' refuses the same requests in a build with
@@ -132,14 +132,13 @@ table() {
     local n all said rows=$PWD/crates/$1 these=("${numbers[@]}")
     declare -A counts=([whole]=0 [front]=0 [wrong]=0)
     [ -x "$rows/out/$1" ] || { echo "refused memory: no $rows/out/$1, so no rows of it"; return; }
-    paste -d $'\x01' "$rows/stdin" "$rows/stdout" | grep -v '^\["long"' >"$folder/both"
-    { echo '# patient'; cut -d $'\x01' -f 1 "$folder/both"; } >"$folder/rows"
-    { echo '# patient'; cut -d $'\x01' -f 2 "$folder/both"; } >"$folder/whole"
-    if ! answer 0 "$rows/out/$1" || ! cmp -s "$folder/text" "$folder/whole"; then
+    { echo '# patient'; grep -v '^\["long"' "$rows/stdin"; } >"$folder/rows"
+    if ! "$rows/out/$1" <"$rows/stdin" | cmp -s - "$rows/stdout" || ! answer 0 "$rows/out/$1"; then
         echo "refused memory: the rows of $1 fail undisturbed"
         failed=$((failed + 1))
         return
     fi
+    mv "$folder/text" "$folder/whole"
     all=$(cat "$folder/counted")
     [ ${#these[@]} -gt 0 ] || mapfile -t these < <(seq "$all")
     for n in "${these[@]}"; do
@@ -170,7 +169,7 @@ printf 'demux 7\nseek 0.24\ndemux 6\nseek 0\ndemux 8\nshow\n' >"$folder/join"
 sweep --back=0 PLAIN forget
 sweep SWITCHED switch
 sweep PLAIN join
-for name in script_rows queue_rows range_rows cache_rows demux_rows ipc_rows; do
+for name in script_rows queue_rows range_rows cache_rows demux_rows dump_rows playlist_rows ipc_rows; do
     table "$name"
 done
 echo "refused memory: $passed passed, $failed failed"

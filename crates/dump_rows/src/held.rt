@@ -25,13 +25,14 @@ impl Held {
             packets: Packets::new(alloc),
         }
     }
+}
 
-    fn list(&mut self, track: Track) -> Result<(), RowError> {
-        if self.tracks.get(track.no).is_some() {
-            return Err(RowError::BadRow);
-        }
-        Ok(self.tracks.push(track)?)
+// Lists a track more, where its number isn't listed.
+fn list(tracks: &mut TrackList, track: Track) -> Result<(), RowError> {
+    if tracks.get(track.no).is_some() {
+        return Err(RowError::BadRow);
     }
+    Ok(tracks.push(track)?)
 }
 
 fn push_held(held: &Held, out: &mut String) -> Result<(), RowError> {
@@ -109,7 +110,7 @@ pub fn call_track(
         duration,
         encoded: false,
     };
-    held.list(track)?;
+    list(&mut held.tracks, track)?;
     push_held(held, out)
 }
 
@@ -127,7 +128,8 @@ fn subtitle(alloc: Global, no: TrackNo, name: &str) -> Result<Track, RowError> {
     })
 }
 
-/// `["tracks",COUNT,NAME]`: subtitles with the numbers from 1 on, all of that name.
+/// `["tracks",COUNT,NAME]`: holds subtitles with the numbers from 1 on, all of that name, in place of
+/// its tracks.
 pub fn call_tracks(
     alloc: Global,
     held: &mut Held,
@@ -138,9 +140,11 @@ pub fn call_tracks(
         return Err(RowError::BadRow);
     };
     let count = u8::try_from(number_in(count)?)?;
+    let mut tracks = TrackList::new(alloc);
     for no in 0..count {
-        held.list(subtitle(alloc, no as u64 + 1, text_in(name)?)?)?;
+        list(&mut tracks, subtitle(alloc, no as u64 + 1, text_in(name)?)?)?;
     }
+    held.tracks = tracks;
     push_held(held, out)
 }
 
@@ -168,7 +172,8 @@ pub fn call_packet(
     push_held(held, out)
 }
 
-/// `["packets",COUNT,TRACK,STEP]`: packets of one octet, each so many nanoseconds behind the last.
+/// `["packets",COUNT,TRACK,STEP]`: holds packets of one octet, each so many nanoseconds behind the
+/// last, in place of its packets.
 pub fn call_packets(
     alloc: Global,
     held: &mut Held,
@@ -180,8 +185,9 @@ pub fn call_packets(
     };
     let count = u16::try_from(number_in(count)?)?;
     let (track, step) = (track_in(track)?, u32::try_from(number_in(step)?)?);
+    let mut packets = Packets::new(alloc);
     for number in 0..count {
-        held.packets.push(Packet {
+        packets.push(Packet {
             track,
             pos: at(number as u64),
             time: number as i64 * step as i64,
@@ -190,5 +196,6 @@ pub fn call_packets(
             body: Bytes::copy_from_slice(alloc, &[(number % 256) as u8])?,
         })?;
     }
+    held.packets = packets;
     push_held(held, out)
 }

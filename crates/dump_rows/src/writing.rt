@@ -119,7 +119,9 @@ pub fn call_fails(
         Err(error) => push_error(error, out)?,
     }
     let mut whole = CleanSink::new(alloc);
-    let _ended = write_into(alloc, held, scale, &mut whole)?;
+    if let Err(DumpError::NoMemory) = write_into(alloc, held, scale, &mut whole)? {
+        return Err(RowError::NoMemory);
+    }
     let is_front = whole.text().starts_with(sink.text());
     Ok(write!(
         out,

@@ -95,7 +95,8 @@ pub fn push_changes(alloc: Global, out: &mut String, changes: &[Change]) -> Resu
 }
 
 fn push_file(alloc: Global, out: &mut String, place: u32, name: &str) -> Result<(), NoMemory>
-    ensures { OnOk result (string_bytes out.new ≡ string_bytes out.old ++ file_text place name.now) }
+    ensures { OnOk result
+        (string_bytes out.new ≡ string_bytes out.old ++ file_text place name.now) }
 {
     write!(out, "file {place} ")?;
     push_word(alloc, out, name)

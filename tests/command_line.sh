@@ -38,7 +38,7 @@ prints() {
         failed=$((failed + 1))
     fi
 }
-usage="mcplay: usage: mcplay run [--forward=N] [--back=N] [--readahead=N] FILE [SCRIPT]"
+usage="mcplay: usage: mcplay run [--forward=N] [--back=N] [--readahead=N] FILE [SCRIPT], or mcplay gen [--sum] N"
 expect 0 "mcplay plays a script over a Matroska film and prints its packets." "" --help
 expect 0 "mcplay 0.1.0" "" --version
 expect 2 "" "$usage"
@@ -49,6 +49,24 @@ expect 2 "" "$usage" walk "$film"
 expect 2 "" "$usage" run --forward=0 "$film"
 expect 2 "" "$usage" run "$film" --back=1
 expect 2 "" "$usage" run "$film" script script
+expect 2 "" "$usage" gen
+expect 2 "" "$usage" gen 0
+expect 2 "" "$usage" gen 200001
+expect 2 "" "$usage" gen 18446744073709551617
+expect 2 "" "$usage" gen -1
+expect 2 "" "$usage" gen 1x
+expect 2 "" "$usage" gen ""
+expect 2 "" "$usage" gen --sum
+expect 2 "" "$usage" gen 1 --sum
+expect 2 "" "$usage" gen --sum 0
+expect 2 "" "$usage" gen --sum 200001
+expect 2 "" "$usage" gen --sum 1 1
+expect 2 "" "$usage" gen --Sum 1
+prints "gen 1 packets 3 octets 16 last 20000000 status 0" gen --sum 1
+prints "gen 12 packets 36 octets 258 last 460000000 status 0" gen --sum 12
+prints "gen 13 packets 39 octets 286 last 500000000 status 0" gen --sum 00013
+prints "gen 20000 packets 60000 octets 630000 last 799980000000 status 0" gen --sum 20000
+prints "gen 200000 packets 600000 octets 6300000 last 7999980000000 status 0" gen --sum 200000
 expect 3 "" "mcplay: cannot read" run no/such/film.mkv
 expect 5 "" "mcplay: file refused: NotEbml" run README.md
 first="give 1 at 66.0 time 0 len 1 sum 16 sync"

@@ -186,6 +186,11 @@ played_out rd (line ∷ lines) out old new p q =
     let here = part_quiet old p.1.part m.0 p.0 new p.1.grows m.1 q in
     (p.0, (p.1, ends_all rd line.1 out old p.0 p.1 here), played_out rd lines (taken_after line.1 out old) p.0 new p.2 q)
 
+-- where no read failed and no memory was wanting, drains went to the ends
+pub ended_out : (film : Film) (limits : Limits) (rd : Readings) (lines : List (ℕ × Act)) (old hd : List DemuxRecord) → IsUsed film limits (reverse hd) → Played rd lines None old hd → list_any is_failed hd ≡ false → list_any is_starved hd ≡ false
+    → PlayedOut rd lines None old hd
+ended_out film limits rd lines old hd u p f w = played_out rd lines None old hd p (quiet film limits hd u f w)
+
 fulfils_done : (files : Option Files) (words : List (List ℕ)) (line : RunLine) (before now : ℕ) (hd : List DemuxRecord) → Stepped files words line before now (Ok tt) hd → list_any is_failed hd ≡ false → list_any is_starved hd ≡ false
     → Fulfils files words line hd exits.Done
 fulfils_done None words line before now hd s f w = (s.lines, s.script, tt)

@@ -44,7 +44,7 @@ any_rose before now (r ∷ rs) h e = elim (or_true (is_failed r) (list_any is_fa
   | inr f ↦ any_rose before now rs h.1 f
 ]
 
-failed_rose : (before now : ℕ) (hd : List DemuxRecord) (set : _) → Grows before now (Opened 0 set ∷ []) hd → list_any is_failed hd ≡ true → Rose before now
+pub failed_rose : (before now : ℕ) (hd : List DemuxRecord) (set : _) → Grows before now (Opened 0 set ∷ []) hd → list_any is_failed hd ≡ true → Rose before now
 failed_rose before now hd set g e =
     let here : list_any is_failed (Opened 0 set ∷ g.part) ≡ true = subst (λ (x : List DemuxRecord). list_any is_failed x ≡ true) g.grows e in
     any_rose before now g.part g.fails here

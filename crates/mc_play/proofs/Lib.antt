@@ -5,3 +5,8 @@ pub mod Endings
 pub mod Completing
 pub mod Plays
 pub mod Writing
+pub mod Sums
+pub mod Counting
+pub mod Drained
+pub mod Summary
+pub mod InMemory

@@ -5,3 +5,5 @@ pub mod Asked
 pub mod Opening
 pub mod Run
 pub mod Completing
+pub mod Generating
+pub mod Summing

@@ -18,7 +18,7 @@ use std::alloc::Global;
 const PIECE: usize = 8_192;
 
 /// Plays the script over the film that the words name, or says why nothing was done.
-fn perform<D: Shelf>(
+pub(crate) fn perform<D: Shelf>(
     alloc: Global,
     words: &[String],
     line: RunLine,
@@ -60,7 +60,7 @@ fn any_failed(hd: &[DemuxRecord]) -> bool
     hd.iter().any(is_failed)
 }
 
-fn any_starved(hd: &[DemuxRecord]) -> bool
+pub(crate) fn any_starved(hd: &[DemuxRecord]) -> bool
     ensures { result ≡ list_any is_starved hd.now }
 {
     hd.iter().any(is_starved)

@@ -5,8 +5,11 @@
 #![tactic(auto)]
 
 mod command;
+mod generating;
 mod opening;
 mod playing;
+mod summing;
 mod text;
 
 pub use command::run;
+pub use generating::{GenLine, generate};

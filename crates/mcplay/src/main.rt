@@ -1,10 +1,11 @@
 //! The program `mcplay`: it hands the words of its command line, the system's files and standard
-//! output to `mc_play::run`, and ends with the status of what comes back. All that a run does and
-//! promises is in that call's contract; here is only the edge.
+//! output to `mc_play::run`, or to `mc_play::generate` where the first word is `gen`, and ends with the
+//! status of what comes back. All that they do and promise is in those calls' contracts; here is only
+//! the edge.
 #![tactic(auto)]
 
 use mc_outside::{FileShelf, StdSink};
-use mc_play::run;
+use mc_play::{generate, run};
 use mc_script::Exit;
 use std::process::ExitCode;
 use std::{env, io};
@@ -15,14 +16,24 @@ mcplay plays a script over a Matroska film and prints its packets.
   mcplay run film.mkv                  every packet of the default tracks, then how each track ended
   mcplay run film.mkv seek.script      what a script asks for; with `seek 60` and `drain` in it, all
                                        packets from the keyframe at or before one minute on
+  mcplay gen 20000 > film.mkv          a film of known content, of 20000 pictures
+  mcplay gen --sum 20000               what a right reader finds in that film
 
 usage: mcplay run [--forward=N] [--back=N] [--readahead=N] FILE [SCRIPT]
+       mcplay gen [--sum] N
        mcplay --help | --version
 
 `run` opens FILE with its default video and audio track, and carries out the lines of the file
 SCRIPT; without SCRIPT it reads both tracks to their ends, as the script `drain` does. Nothing is
 printed before the last line was carried out: a long run is silent until then. FILE and SCRIPT are
 files that can be read at any place, so neither is standard input; one named -x is written ./-x.
+
+`gen` writes a Matroska film of N pictures, 1 to 200000, to standard output: a video track of 25
+pictures a second, every twelfth a keyframe, and an audio track of a packet each 20 ms. Picture i
+has 8 + i mod 32 octets, of which octet j is (i + j) mod 256; a packet of sound has four, i mod 256.
+With --sum it makes that film in memory, reads it as `run` does, and prints how many packets there
+are, how many octets they have together, and the last one's time:
+  gen N packets COUNT octets OCTETS last TIME status 0
 
 options, each at most once and before FILE; N is a decimal number without a suffix:
   --forward=N    octets cached ahead of the readers, 1 to 1073741824; else 157286400, 150 MiB
@@ -61,7 +72,7 @@ what happens is printed, one line each; times are in nanoseconds, places are OFF
 status, with a line on standard error unless it is 0:
   0  done
   1  out of memory
-  2  the words are not those of the usage line
+  2  the words are not those of a usage line
   3  cannot read: FILE or SCRIPT is not there or cannot be opened, or a read of it failed
   4  cannot write: standard output took no more
   5  file refused, for what stands before the film's Clusters:
@@ -104,18 +115,29 @@ fn keep_packets_in_the_heap(rt: &HostRuntime) {
     let _ = block.reserve(LARGE);
 }
 
+// Carries out the words.
+fn carry_out(rt: &HostRuntime, words: &[String]) -> Exit {
+    let mut out = StdSink::new(io::writer(rt));
+    match words {
+        [command, ..] if command.as_str() == "gen" => generate(rt.alloc(), words, &mut out),
+        _ => {
+            let mut shelf = FileShelf::new(rt, rt.alloc());
+            run(rt.alloc(), words, &mut shelf, &mut out).exit
+        }
+    }
+}
+
 // Carries out the words, and says on standard error why they came to nothing.
 fn perform(rt: &HostRuntime, words: &[String]) -> io::Result<u8> {
     keep_packets_in_the_heap(rt);
-    let mut shelf = FileShelf::new(rt, rt.alloc());
-    let mut out = StdSink::new(io::writer(rt));
-    let report = run(rt.alloc(), words, &mut shelf, &mut out);
-    complain(rt, report.exit)
+    complain(rt, carry_out(rt, words))
 }
 
 fn complain(rt: &HostRuntime, exit: Exit) -> io::Result<u8> {
-    if exit != Exit::Done {
-        eprintln!(rt; "{exit}")?;
+    match exit {
+        Exit::Done => {}
+        Exit::Usage => eprintln!(rt; "{exit}, or mcplay gen [--sum] N")?,
+        exit => eprintln!(rt; "{exit}")?,
     }
     Ok(exit.status())
 }

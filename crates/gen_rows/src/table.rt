@@ -1,4 +1,5 @@
 use crate::pieces::call_pieces;
+use crate::seeks::call_seeks;
 use crate::written::{call_fails, call_octets, call_packets, call_summary};
 use rows::{Json, RowError, Table, named};
 use std::alloc::Global;
@@ -14,14 +15,16 @@ enum Word {
     Summary,
     Fails,
     Pieces,
+    Seeks,
 }
 
-const WORDS: [(&str, Word); 5] = [
+const WORDS: [(&str, Word); 6] = [
     ("octets", Word::Octets),
     ("packets", Word::Packets),
     ("summary", Word::Summary),
     ("fails", Word::Fails),
     ("pieces", Word::Pieces),
+    ("seeks", Word::Seeks),
 ];
 
 impl Table for GenTable {
@@ -38,6 +41,7 @@ impl Table for GenTable {
             Word::Summary => call_summary(alloc, arguments, out),
             Word::Fails => call_fails(alloc, arguments, out),
             Word::Pieces => call_pieces(alloc, arguments, out),
+            Word::Seeks => call_seeks(alloc, arguments, out),
         }
     }
 }

@@ -13,7 +13,7 @@ pub(crate) fn pictures_in(argument: &Json<'_>) -> Result<u32, RowError> {
 }
 
 // The film of so many pictures.
-fn written(alloc: Global, n: u32) -> Result<CleanSink, RowError> {
+pub(crate) fn written(alloc: Global, n: u32) -> Result<CleanSink, RowError> {
     let mut sink = CleanSink::new(alloc);
     match write_generated(alloc, n, &mut sink) {
         Ok(()) => Ok(sink),

@@ -67,6 +67,23 @@ prints "gen 12 packets 36 octets 258 last 460000000 status 0" gen --sum 12
 prints "gen 13 packets 39 octets 286 last 500000000 status 0" gen --sum 00013
 prints "gen 20000 packets 60000 octets 630000 last 799980000000 status 0" gen --sum 20000
 prints "gen 200000 packets 600000 octets 6300000 last 7999980000000 status 0" gen --sum 200000
+# A generated film is read back by `run`, packet by packet.
+for n in 1 12 13 20000; do
+    "$program" gen "$n" >"$scripts/film"
+    if [ $? = 0 ] && [ "$("$program" run "$scripts/film" | grep -c '^give')" = $((3 * n)) ]; then
+        passed=$((passed + 1))
+    else
+        echo "command line: 'mcplay gen $n' is not read back"
+        failed=$((failed + 1))
+    fi
+done
+octets=$("$program" gen 1 | wc -c)
+if [ "$octets" = 119 ]; then
+    passed=$((passed + 1))
+else
+    echo "command line: 'mcplay gen 1' has $octets octets"
+    failed=$((failed + 1))
+fi
 expect 3 "" "mcplay: cannot read" run no/such/film.mkv
 expect 5 "" "mcplay: file refused: NotEbml" run README.md
 first="give 1 at 66.0 time 0 len 1 sum 16 sync"
@@ -135,12 +152,16 @@ for quick in "" --quick; do
     fi
 done
 if [ -w /dev/full ]; then
-    if "$program" run "$film" 2>/dev/null >/dev/full; [ $? = 4 ]; then
-        passed=$((passed + 1))
-    else
-        echo "command line: a full device is no status 4"
-        failed=$((failed + 1))
-    fi
+    for words in "run $film" "gen 1" "gen 20000" "gen --sum 1"; do
+        # shellcheck disable=SC2086
+        "$program" $words 2>/dev/null >/dev/full
+        if [ $? = 4 ]; then
+            passed=$((passed + 1))
+        else
+            echo "command line: a full device is no status 4 for 'mcplay $words'"
+            failed=$((failed + 1))
+        fi
+    done
 fi
 echo "command line: $passed passed, $failed failed"
 [ "$failed" -eq 0 ] && bash tests/launcher.sh

@@ -1,5 +1,5 @@
 -- What a worker and a team of workers added.
-use Rattle.std.proofs.Common.{◌≡◌, ℕ, ◌<◌, ◌⊎◌, Bool, true, false, cond, eq-eqb, List, [], ◌∷◌, ◌++◌, refl, ap, sym, ◌∙◌, ⊎_elim, arith}
+use Rattle.std.proofs.Common.{◌≡◌, ℕ, ◌<◌, Bool, true, false, cond, eq-eqb, List, [], ◌∷◌, ◌++◌, refl, ap, sym, ◌∙◌, ⊎_elim, arith}
 use Rattle.mc_turn.specs.Callers.{of_caller, Divides, Has, HasAll, Within}
 use Rattle.mc_turn.specs.Passes.{Known, Seen, Carried}
 use Rattle.turn_bench.specs.declared.entry.Entry.{Entry}

@@ -4,3 +4,4 @@ pub mod Posts
 pub mod Settings
 pub mod Cells
 pub mod Boards
+pub mod Handed

@@ -4,6 +4,7 @@
 
 mod cell;
 mod entry;
+mod handed;
 mod log;
 mod mutexes;
 mod names;

@@ -169,7 +169,7 @@ printf 'demux 7\nseek 0.24\ndemux 6\nseek 0\ndemux 8\nshow\n' >"$folder/join"
 sweep --back=0 PLAIN forget
 sweep SWITCHED switch
 sweep PLAIN join
-for name in script_rows queue_rows range_rows cache_rows demux_rows dump_rows playlist_rows ipc_rows; do
+for name in script_rows queue_rows range_rows cache_rows demux_rows dump_rows ipc_rows; do
     table "$name"
 done
 echo "refused memory: $passed passed, $failed failed"

@@ -17,7 +17,7 @@ use Rattle.mc_props.specs.declared.reading.Reading.{Reading}
 use Rattle.mc_props.specs.declared.reading.Reading.TheVariants.{Is, Unavailable}
 use Rattle.mc_playlist.specs.Fields.{AgreeOutside}
 use Rattle.mc_playlist.specs.Table.{Masked, Stated}
-use Rattle.mc_playlist.specs.Watches.{Current, CurrentBut, IsGiven, IsPlaced, IsSure, change_to, changes_of, given, is_due, is_settled, news_of, noted, now, same_reading, told, was_given, with_given}
+use Rattle.mc_playlist.specs.Watches.{AnswersIfDue, Current, CurrentBut, IsGiven, IsPlaced, IsSure, change_to, changes_of, given, is_due, is_settled, news_of, noted, now, same_reading, told, was_given, with_given}
 use Rattle.mc_playlist.specs.declared.facts.ListFacts.{ListFacts}
 use Rattle.mc_playlist.specs.declared.watched.Change.{Change}
 use Rattle.mc_playlist.specs.declared.watched.Watched.{Watched}
@@ -77,6 +77,19 @@ pub all_sure : (stated : Stated) (entries : List PropEntry) → Masked stated en
     → CurrentBut stated entries mask f ws → All (IsSure stated entries mask f) ws
 all_sure stated entries masked mask f ws (g, outside, current) = λ k d within.
     sure stated entries masked mask f g outside (slice_index_or ws k d) (current.placed k d within) (current.given k d within)
+
+-- ---- what a table's reader answers for
+
+may_read : (answers : ℕ → Type 0) (entries : List PropEntry) → ((place : ℕ) → place < length entries → answers place) → (mask : ℕ)
+    → (w : Watched) → IsPlaced entries w → AnswersIfDue answers entries mask w
+may_read answers entries all mask w placed due =
+    let found = position-Some (has_name w.name) entries w.place no_entry (sym placed) in
+    all w.place found.0
+
+pub all_may_read : (answers : ℕ → Type 0) (entries : List PropEntry) → ((place : ℕ) → place < length entries → answers place) → (mask : ℕ)
+    → (ws : List Watched) → All (IsPlaced entries) ws → All (AnswersIfDue answers entries mask) ws
+all_may_read answers entries all mask ws placed = λ k d within.
+    may_read answers entries all mask (slice_index_or ws k d) (placed k d within)
 
 -- ---- after a note
 

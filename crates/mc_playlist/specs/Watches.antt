@@ -111,6 +111,10 @@ abbrev pub is_due : List PropEntry → ℕ → Watched → Bool
 is_due entries mask w =
     not (is_some w.given) || share_field (mask_at entries (Some w.place)) mask
 
+-- a reader answers for it where it is due
+abbrev pub AnswersIfDue : (ℕ → Type 0) → List PropEntry → ℕ → Watched → Type 0
+AnswersIfDue answers entries mask w = is_due entries mask w ≡ true → answers w.place
+
 -- what it is to be given, if anything
 abbrev pub news_of : Stated → ListFacts → Watched → Option Reading
 news_of stated f w = if is_settled stated f w then None else Some (now stated f w)

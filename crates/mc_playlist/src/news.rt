@@ -2,14 +2,13 @@
 
 ghost use Rattle.std.specs.Prelude.{◌≡◌, [], ◌∷◌, ◌++◌, IfOk, IsTrue, All, Option, Bool, true, false, length, map};
 ghost use Rattle.std.specs.List.{list_any};
-ghost use Rattle.mc_playlist.specs.Watches.{IsPlaced, IsSure, change_to, changes_of, given, is_due, news_of, noted};
+ghost use Rattle.mc_playlist.specs.Watches.{AnswersIfDue, IsSure, change_to, changes_of, given, is_due, news_of, noted};
 
 use crate::facts::ListFacts;
 use crate::meanings::ListMeaning;
 use crate::reads::ListReads;
-use crate::table::ListTable;
 use crate::watched::{Changes, Watched};
-use mc_props::Reading;
+use mc_props::{PropEntry, Reading};
 use mc_value::NoMemory;
 use sqlite_items::Items;
 use std::alloc::Global;
@@ -36,32 +35,30 @@ impl News {
 }
 
 /// Whether a property has to be read where fields of a mask have changed.
-pub fn is_any_due<F: ListReads<M>, M: ListMeaning>(
-    watches: &[Watched],
-    table: &ListTable<F, M>,
-    mask: u32,
-) -> bool
-    ensures { result ≡ list_any (is_due table.now mask) watches.now }
+pub fn is_any_due(watches: &[Watched], entries: &[PropEntry], mask: u32) -> bool
+    ensures { result ≡ list_any (is_due entries.now mask) watches.now }
 {
-    watches.iter().any(|watched| watched.is_due(table, mask))
+    watches.iter().any(|watched| watched.is_due(entries, mask))
 }
 
-/// Reads the properties that are due where fields of a mask have changed.
+/// Reads the properties that are due where fields of a mask have changed. The reader has to answer
+/// for these alone, so no other is read.
 pub fn read_due<F: ListReads<M>, M: ListMeaning>(
     alloc: Global,
     watches: &[Watched],
-    table: &ListTable<F, M>,
+    entries: &[PropEntry],
+    reader: &F,
     facts: &ListFacts,
     mask: u32,
 ) -> Result<News, NoMemory>
-    requires placed { All (IsPlaced table.now) watches.now }
-    requires sure { All (IsSure M.value table.now mask facts.now) watches.now }
+    requires answers { All (AnswersIfDue (F.answers reader.now) entries.now mask) watches.now }
+    requires sure { All (IsSure M.value entries.now mask facts.now) watches.now }
     ensures readings { IfOk result (λ n. n.readings ≡ map (news_of M.value facts.now) watches.now) }
     ensures changes { IfOk result (λ n. n.changes ≡ changes_of M.value facts.now watches.now) }
 {
     let mut news = News::new(alloc);
     for watched in watches {
-        match news_of(watched, table, facts, mask)? {
+        match news_of(watched, entries, reader, facts, mask)? {
             Some(reading) => {
                 news.changes.push(watched.change(alloc, &reading)?)?;
                 news.readings.push(Some(reading))?;
@@ -72,21 +69,22 @@ pub fn read_due<F: ListReads<M>, M: ListMeaning>(
     Ok(news)
 }
 
-// What a property is to be given, if anything.
+// What a property is to be given, if anything. It is not read unless it is due.
 fn news_of<F: ListReads<M>, M: ListMeaning>(
     watched: &Watched,
-    table: &ListTable<F, M>,
+    entries: &[PropEntry],
+    reader: &F,
     facts: &ListFacts,
     mask: u32,
 ) -> Result<Option<Reading>, NoMemory>
-    requires placed { IsPlaced table.now watched.now }
-    requires sure { IsSure M.value table.now mask facts.now watched.now }
+    requires answers { AnswersIfDue (F.answers reader.now) entries.now mask watched.now }
+    requires sure { IsSure M.value entries.now mask facts.now watched.now }
     ensures { IfOk result (λ o. o ≡ news_of M.value facts.now watched.now) }
 {
-    if !watched.is_due(table, mask) {
+    if !watched.is_due(entries, mask) {
         return Ok(None);
     }
-    let reading = table.at(watched.place, facts)?;
+    let reading = reader.read(watched.place, facts)?;
     if watched.was_given(&reading) {
         return Ok(None);
     }

@@ -110,10 +110,24 @@ impl<F: ListReads<M>, M: ListMeaning> ListTable<F, M> {
         ensures value { result ≡ mask_at self.now (Option.Some place) }
         ensures fit { AreEntries M.value self.now }
     {
-        match self.entries.get(place as usize) {
-            Some(found) => found.mask,
-            None => 0,
-        }
+        mask_at(self.entries.as_slice(), place)
+    }
+
+    /// The reader, which may be called for each entry on any facts.
+    pub(crate) fn reader(&self) -> &F
+        ensures { (place : ℕ) → place < length self.now → F.answers result.now place }
+    {
+        &self.reader
+    }
+}
+
+/// The mask of the entry at a place; none of its fields stands behind the last.
+pub(crate) fn mask_at(entries: &[PropEntry], place: u32) -> u32
+    ensures { result ≡ mask_at entries.now (Option.Some place) }
+{
+    match entries.get(place as usize) {
+        Some(found) => found.mask,
+        None => 0,
     }
 }
 

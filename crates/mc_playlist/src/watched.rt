@@ -1,11 +1,9 @@
 ghost use Rattle.std.specs.Prelude.{◌≡◌, IfOk, false};
-ghost use Rattle.mc_playlist.specs.Table.{Stated};
 ghost use Rattle.mc_playlist.specs.Watches.{change_to, is_due, same_reading, was_given};
 
-use crate::meanings::ListMeaning;
-use crate::reads::ListReads;
-use crate::table::ListTable;
-use mc_props::Reading;
+use crate::table::mask_at;
+use mc_props::fields::share_field;
+use mc_props::{PropEntry, Reading};
 use mc_value::{NoMemory, Text};
 use sqlite_items::Items;
 use std::alloc::Global;
@@ -34,15 +32,12 @@ pub struct Change {
 pub type Changes = Items<Change>;
 
 impl Watched {
-    /// Whether it was never given, or may show something else where fields of a mask change.
-    pub fn is_due<F: ListReads<M>, M: ListMeaning>(
-        &self,
-        table: &ListTable<F, M>,
-        mask: u32,
-    ) -> bool
-        ensures { result ≡ is_due table.now mask self.now }
+    /// Whether it was never given, or may show something else where fields of a mask change, in a
+    /// table of these entries.
+    pub fn is_due(&self, entries: &[PropEntry], mask: u32) -> bool
+        ensures { result ≡ is_due entries.now mask self.now }
     {
-        self.given.is_none() || table.affected(self.place, mask)
+        self.given.is_none() || share_field(mask_at(entries, self.place), mask)
     }
 
     /// Whether this was what it was last given.

@@ -1,5 +1,5 @@
 ghost use Rattle.std.specs.Prelude.{◌≡◌, [], Ok, IfOk, OnOk, OnErr, All, false, length, map};
-ghost use Rattle.mc_playlist.specs.Watches.{Current, CurrentBut, IsPlaced, IsSure, KeepsCurrent, Watches as Watching, changes_of, is_due, is_watched, noted, told, watched};
+ghost use Rattle.mc_playlist.specs.Watches.{AnswersIfDue, Current, CurrentBut, IsSure, KeepsCurrent, Watches as Watching, changes_of, is_due, is_watched, noted, told, watched};
 
 use crate::facts::ListFacts;
 use crate::meanings::ListMeaning;
@@ -8,7 +8,7 @@ use crate::reads::ListReads;
 use crate::steps::ListError;
 use crate::table::ListTable;
 use crate::watched::{Changes, Watched};
-use mc_props::Reading;
+use mc_props::{PropEntry, Reading};
 use mc_value::{NoMemory, Text};
 use sqlite_items::Items;
 use std::alloc::Global;
@@ -108,27 +108,28 @@ impl Watches {
         // Nothing is read where nothing is due.
         ensures unread { All (λ w. is_due table.now mask w ≡ false) self.old → result ≡ Ok [] }
     {
-        // For the proof: what a property shows depends on the fields of its mask alone.
-        let _entries = table.entries();
-        if !is_any_due(&self.items, table, mask) {
+        let entries = table.entries();
+        if !is_any_due(&self.items, entries, mask) {
             return Ok(Changes::new(self.alloc));
         }
-        self.read(table, facts, mask)
+        self.read(entries, table.reader(), facts, mask)
     }
 
+    // It may call the reader for what is due, and for nothing else.
     fn read<F: ListReads<M>, M: ListMeaning>(
         &mut self,
-        table: &ListTable<F, M>,
+        entries: &[PropEntry],
+        reader: &F,
         facts: &ListFacts,
         mask: u32,
     ) -> Result<Changes, NoMemory>
-        requires placed { All (IsPlaced table.now) self.old }
-        requires sure { All (IsSure M.value table.now mask facts.now) self.old }
+        requires answers { All (AnswersIfDue (F.answers reader.now) entries.now mask) self.old }
+        requires sure { All (IsSure M.value entries.now mask facts.now) self.old }
         ensures value { IfOk result (λ cs. cs ≡ changes_of M.value facts.now self.old) }
         ensures after { OnOk result (self.new ≡ map (told M.value facts.now) self.old) }
         ensures err { OnErr result (self.new ≡ self.old) }
     {
-        let news = read_due(self.alloc, &self.items, table, facts, mask)?;
+        let news = read_due(self.alloc, &self.items, entries, reader, facts, mask)?;
         self.note(news.readings);
         Ok(news.changes)
     }

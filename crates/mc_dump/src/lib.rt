@@ -8,6 +8,9 @@
 //! payload. `specs/Chosen` says which packets are chosen, `specs/Clustered` how they are cut into
 //! Clusters, and `specs/Dumped` what is written and that it is read back so.
 //!
+//! Of a track all is written that `mc_tracks` reads. A film's CodecPrivate and its settings of
+//! pictures and sound are not, so that a decoder that needs them has to have them from elsewhere.
+//!
 //! The packets of a film from 0.13 to 0.25 seconds, in nanoseconds, with track 1 as the lead, are
 //! written into a sink in memory by
 //!

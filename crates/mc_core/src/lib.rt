@@ -1,0 +1,9 @@
+//! The core of a player: its clients, the requests that wait, what the player knows of itself, and
+//! a journal of all that happened.
+#![tactic(auto)]
+
+mod core_error;
+mod making;
+mod state;
+
+pub use core_error::CoreError;

@@ -1,8 +1,8 @@
 -- What a call leaves of a core: its journal with a record more, or nothing but room.
-use Rattle.std.specs.Prelude.{◌≡◌, ℕ, ◌+◌, ◌≤◌, List, [], ◌∷◌, ◌++◌}
+use Rattle.std.specs.Prelude.{◌≡◌, ℕ, ◌+◌, ◌≤◌, [], ◌∷◌, ◌++◌}
 use Rattle.slab.specs.Slab.{get}
 use Rattle.mc_player.specs.declared.record.CoreRecord.{CoreRecord}
-use Rattle.mc_core.specs.Stands.{CoreState, readings_of}
+use Rattle.mc_core.specs.Stands.{CoreState}
 
 -- one record was written; what else the core holds is what its journal tells
 pub record Wrote (old new : CoreState) (r : CoreRecord) : Type 0 where
@@ -10,10 +10,11 @@ pub record Wrote (old new : CoreState) (r : CoreRecord) : Type 0 where
   pub entries : new.entries ≡ old.entries
   pub room : old.spare ≤ new.spare + 1
 
--- nothing but room changed
-pub record IsAsBefore (old new : CoreState) : Type 0 where
-  pub journal : new.journal ≡ old.journal
-  pub entries : new.entries ≡ old.entries
-  pub readings : readings_of new ≡ readings_of old
-  pub clients : (c : ℕ) → get new.clients c ≡ get old.clients c
+-- nothing but room for records changed
+abbrev pub IsAsBefore : CoreState → CoreState → Type 0
+IsAsBefore old new = new ≡ record old { spare = new.spare }
 
+-- nothing but room changed, also among the clients
+pub record IsRoomy (old new : CoreState) : Type 0 where
+  pub changed : new ≡ record old { clients = new.clients; spare = new.spare }
+  pub same : (c : ℕ) → get new.clients c ≡ get old.clients c

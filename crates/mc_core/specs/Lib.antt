@@ -1,3 +1,4 @@
 pub mod Errors
 pub mod Stands
 pub mod Calls
+pub mod Clients

@@ -2,6 +2,8 @@
 //! a journal of all that happened.
 #![tactic(auto)]
 
+mod answering;
+mod clients;
 mod core_error;
 mod making;
 mod state;

@@ -1,2 +1,4 @@
 pub mod Steps
 pub mod Answered
+pub mod Coming
+pub mod Asking

@@ -1,6 +1,8 @@
 -- What a call leaves of a core: its journal with a record more, or nothing but room.
-use Rattle.std.specs.Prelude.{◌≡◌, ℕ, ◌+◌, ◌≤◌, [], ◌∷◌, ◌++◌}
+use Rattle.std.specs.Prelude.{◌≡◌, ℕ, ◌+◌, ◌≤◌, [], ◌∷◌, ◌++◌, Option, Some, None}
 use Rattle.slab.specs.Slab.{get}
+use Rattle.mc_player.specs.declared.record.Answer.{Answer}
+use Rattle.mc_player.specs.declared.record.Answer.TheVariants as answer
 use Rattle.mc_player.specs.declared.record.CoreRecord.{CoreRecord}
 use Rattle.mc_core.specs.Stands.{CoreState}
 
@@ -18,3 +20,8 @@ IsAsBefore old new = new ≡ record old { spare = new.spare }
 pub record IsRoomy (old new : CoreState) : Type 0 where
   pub changed : new ≡ record old { clients = new.clients; spare = new.spare }
   pub same : (c : ℕ) → get new.clients c ≡ get old.clients c
+
+-- a request that is accepted has the number of records before it for a ticket
+abbrev pub ticket_for : ℕ → Answer → Option ℕ
+ticket_for n answer.Ok = Some n
+ticket_for n a = None

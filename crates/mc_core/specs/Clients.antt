@@ -1,5 +1,8 @@
 -- What becomes of a client in a slab.
-use Rattle.std.specs.Prelude.{◌≡◌, ℕ, ◌<◌, Bool, not, if◌then◌else◌, nat_le, List, length, filter, IsTrue, Option, Some}
+use Rattle.std.specs.Prelude.{◌≡◌, ℕ, ◌<◌, Bool, true, false, IsSomeAnd, not, if◌then◌else◌, nat_le, List, length, filter, IsTrue, Option, Some}
+use Rattle.std.specs.Option.{option_map}
+use Rattle.slab.specs.Slab.{Slab, get}
+use Rattle.mc_dispatch.specs.declared.request.ClientNo.{ClientNo}
 use Rattle.mc_ring.specs.Event.{enters_ring}
 use Rattle.mc_ring.specs.Ring.{is_full}
 use Rattle.mc_ring.specs.declared.event.Event.{Event}
@@ -12,6 +15,10 @@ use Rattle.mc_client.specs.Seen.{now_of, poll_of, seen_after, seen_by}
 use Rattle.mc_client.specs.Watches.{KeepsFreshAt, has_id, present}
 use Rattle.mc_client.specs.declared.refusal.Pushed.{Pushed}
 use Rattle.mc_client.specs.declared.watch.Watch.{Watch}
+
+-- the name of the client of a number
+abbrev pub name_at : Slab ClientState → ClientNo → Option (List ℕ)
+name_at cs c = option_map (λ (k : ClientState). k.name) (get cs c.0)
 
 -- the client was polled, and stands there as the poll left it
 pub record PolledAt (value : ℕ → Facts → Reading) (entries : List PropEntry) (f : Facts)
@@ -49,6 +56,13 @@ pub record IsPlacedAt (k : ClientState) (placed : Bool) (found : Option ClientSt
     : Type 0 where
   pub answer : placed ≡ not (is_full k.ring)
   pub stands : found ≡ Some (after_request k)
+
+-- no place is free for it, or one is
+abbrev pub IsFullAt : Slab ClientState → ℕ → Type 0
+IsFullAt cs c = IsSomeAnd (get cs c) (λ k. is_full k.ring ≡ true)
+
+abbrev pub IsFreeAt : Slab ClientState → ℕ → Type 0
+IsFreeAt cs c = IsSomeAnd (get cs c) (λ k. is_full k.ring ≡ false)
 
 -- an event was pushed to it
 pub record IsPushedAt (k : ClientState) (e : Event) (p : Pushed) (found : Option ClientState)

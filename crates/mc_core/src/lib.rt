@@ -5,7 +5,9 @@
 mod answering;
 mod clients;
 mod core_error;
+mod lives;
 mod making;
+mod requests;
 mod state;
 
 pub use core_error::CoreError;

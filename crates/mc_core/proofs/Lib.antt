@@ -2,3 +2,4 @@ pub mod Steps
 pub mod Answered
 pub mod Coming
 pub mod Asking
+pub mod Flagging

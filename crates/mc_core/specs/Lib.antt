@@ -2,3 +2,5 @@ pub mod Errors
 pub mod Stands
 pub mod Calls
 pub mod Clients
+pub mod Growth
+pub mod Flags

@@ -5,6 +5,7 @@
 mod answering;
 mod clients;
 mod core_error;
+mod flags;
 mod lives;
 mod making;
 mod requests;

@@ -3,3 +3,5 @@ pub mod Answered
 pub mod Coming
 pub mod Asking
 pub mod Flagging
+pub mod Growing
+pub mod Telling

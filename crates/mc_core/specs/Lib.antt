@@ -4,3 +4,4 @@ pub mod Calls
 pub mod Clients
 pub mod Growth
 pub mod Flags
+pub mod Pushing

@@ -8,6 +8,7 @@ mod core_error;
 mod flags;
 mod lives;
 mod making;
+mod pushing;
 mod requests;
 mod state;
 

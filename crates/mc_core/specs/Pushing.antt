@@ -1,0 +1,46 @@
+-- Pushes to clients in order of creation.
+use Rattle.std.specs.Prelude.{◌≡◌, ℕ, ◌+◌, ◌≤◌, Bool, true, false, List, ◌++◌, reverse, Option, Some, None}
+use Rattle.mc_dispatch.specs.declared.request.ClientNo.{ClientNo}
+use Rattle.mc_ring.specs.declared.event.Event.{Event}
+use Rattle.mc_ring.specs.declared.event.Event.TheVariants as event
+use Rattle.mc_props.specs.declared.facts.Facts.{Facts}
+use Rattle.mc_props.specs.declared.reading.Reading.{Reading}
+use Rattle.mc_client.specs.declared.refusal.Pushed.{Pushed}
+use Rattle.mc_client.specs.declared.refusal.Pushed.TheVariants.{Kept, Dropped, Off}
+use Rattle.mc_player.specs.Effects.{Effect, pushes_to, rest}
+use Rattle.mc_core.specs.Stands.{CoreState, table_of}
+use Rattle.mc_core.specs.declared.pushing.Signal.{Signal}
+use Rattle.mc_core.specs.declared.pushing.Signal.TheVariants as signal
+
+-- whether a pushed event was kept; nothing where it is switched off
+abbrev pub fate : Pushed → Option Bool
+fate Kept = Some true
+fate (Dropped e) = Some false
+fate (Off e) = None
+
+abbrev pub event_of : Signal → Event
+event_of signal.StartFile = event.StartFile
+event_of signal.FileLoaded = event.FileLoaded
+event_of signal.Seek = event.Seek
+event_of signal.Restart = event.PlaybackRestart
+event_of signal.EndFile = event.EndFile 3
+event_of signal.Shutdown = event.Shutdown
+
+-- what is still to come
+abbrev pub coming : (ℕ → Facts → Reading) → CoreState → List Effect
+coming value s = rest (table_of value s) (reverse s.journal)
+
+-- it begins with a push to each of these clients that hears the event, and this is behind it
+abbrev pub ComesWith : (ℕ → Facts → Reading) → Event → List ClientNo → List Effect → CoreState
+    → Type 0
+ComesWith value e cs later s =
+    coming value s ≡ pushes_to (table_of value s) e (reverse s.journal) cs ++ later
+
+abbrev pub IsToPush : (ℕ → Facts → Reading) → Event → List ClientNo → CoreState → Type 0
+IsToPush value e cs s = (later : List Effect) × ComesWith value e cs later s
+
+-- at most so many records were written
+pub record Within (n : ℕ) (old new : CoreState) : Type 0 where
+  pub entries : new.entries ≡ old.entries
+  pub order : new.order ≡ old.order
+  pub room : old.spare ≤ new.spare + n

@@ -5,3 +5,4 @@ pub mod Asking
 pub mod Flagging
 pub mod Growing
 pub mod Telling
+pub mod Replied

@@ -5,3 +5,4 @@ pub mod Clients
 pub mod Growth
 pub mod Flags
 pub mod Pushing
+pub mod Replying

@@ -9,6 +9,7 @@ mod flags;
 mod lives;
 mod making;
 mod pushing;
+mod replying;
 mod requests;
 mod state;
 

@@ -6,3 +6,5 @@ pub mod Flagging
 pub mod Growing
 pub mod Telling
 pub mod Replied
+pub mod Changed
+pub mod Learnt

@@ -6,3 +6,4 @@ pub mod Growth
 pub mod Flags
 pub mod Pushing
 pub mod Replying
+pub mod Changes

@@ -5,7 +5,9 @@
 mod answering;
 mod clients;
 mod core_error;
+mod deeds;
 mod flags;
+mod learning;
 mod lives;
 mod making;
 mod pushing;

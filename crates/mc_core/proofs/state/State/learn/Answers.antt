@@ -1,0 +1,19 @@
+use Rattle.std.proofs.Common.{rules, ◌≡◌, ap}
+use Rattle.mc_core.specs.Stands.{CoreState}
+use Rattle.mc_core.proofs.Learnt.{learnt_adds, planned, quiet_news}
+use Rattle.mc_core.proofs.state.State.learn.Goals as goal
+
+pub restarted-requires-clause-plan : goal.restarted-requires-clause-plan
+restarted-requires-clause-plan g c =
+    planned g.M.Meaning.value c.args.by c.args.view c.in_ok-facts.facts _ c.make_room_for_all.new.self c.learned.new.self c.wrote.new.self c.is_due-due.result
+    c.self.view_is c.self.invariant c.learned.ensures.wrote c.learned.ensures.order c.wrote.ensures.wrote c.wrote.ensures.order c.is_due-due.ensures
+
+pub returns-clause-adds : goal.returns-clause-adds
+returns-clause-adds g c =
+    learnt_adds c.args.by c.args.view c.in_ok-facts.facts c.args.self.now c.make_room_for_all.new.self c.learned.new.self c.wrote.new.self c.restarted.new.self
+    (ap (λ (x : CoreState). x.journal) c.make_room_for_all.ensures.same)
+    c.learned.ensures.wrote c.wrote.ensures.wrote c.restarted.ensures.adds
+
+pub returns-clause-quiet : goal.returns-clause-quiet
+returns-clause-quiet g c =
+    quiet_news g.M.Meaning.value c.restarted.new.self c.args.by _ (returns-clause-adds g c) c.requires.quiet.due c.requires.quiet.reply c.restarted.ensures.none

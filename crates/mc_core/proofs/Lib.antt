@@ -8,3 +8,4 @@ pub mod Telling
 pub mod Replied
 pub mod Changed
 pub mod Learnt
+pub mod Taken

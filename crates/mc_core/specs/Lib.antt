@@ -7,3 +7,4 @@ pub mod Flags
 pub mod Pushing
 pub mod Replying
 pub mod Changes
+pub mod Working

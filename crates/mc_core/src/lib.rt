@@ -10,9 +10,11 @@ mod flags;
 mod learning;
 mod lives;
 mod making;
+mod outcomes;
 mod pushing;
 mod replying;
 mod requests;
 mod state;
+mod taking;
 
 pub use core_error::CoreError;

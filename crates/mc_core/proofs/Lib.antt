@@ -9,3 +9,4 @@ pub mod Replied
 pub mod Changed
 pub mod Learnt
 pub mod Taken
+pub mod Followed

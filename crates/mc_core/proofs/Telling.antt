@@ -3,10 +3,12 @@ use Rattle.std.proofs.Common.{◌≡◌, ◌≢◌, ℕ, ◌+◌, ◌<◌, ◌==
 use Rattle.std.specs.Prelude.{IsSomeAnd, if◌then◌else◌, reverse, slice_get}
 use Rattle.std.specs.Option.{option_map}
 use Rattle.std.proofs.lemmas.Bool.{cases_Bool}
+use Rattle.std.proofs.lemmas.List.{append-nil}
 use Rattle.slab.specs.Slab.{Slab, get}
 use Rattle.mc_dispatch.specs.declared.request.ClientNo.{ClientNo}
 use Rattle.mc_ring.specs.Ring.{is_full}
 use Rattle.mc_ring.specs.declared.event.Event.{Event}
+use Rattle.mc_props.specs.declared.entries.PropEntry.{PropEntry}
 use Rattle.mc_props.specs.declared.facts.Facts.{Facts}
 use Rattle.mc_props.specs.declared.reading.Reading.{Reading}
 use Rattle.mc_client.specs.Client.{ClientState, is_off, after_push_of, push_answer_of}
@@ -19,9 +21,9 @@ use Rattle.mc_player.specs.Effects.{Effect, Push, hears, pushes_to, rest}
 use Rattle.mc_player.specs.Facts.{life_of}
 use Rattle.mc_player.specs.Lives.{Life, Table, life, life_pushed}
 use Rattle.mc_core.specs.Clients.{IsPushedAt}
-use Rattle.mc_core.specs.Growth.{Adds, is_push}
+use Rattle.mc_core.specs.Growth.{Adds, is_news, is_push}
 use Rattle.mc_core.specs.Pushing.{ComesWith, IsToPush, Within, coming, fate}
-use Rattle.mc_core.specs.Stands.{CoreState, Stands, table_of}
+use Rattle.mc_core.specs.Stands.{CoreState, Readings, Stands, table_of}
 use Rattle.mc_core.proofs.Growing.{adds_none, adds_record, news_pushes, adds_as, push_is_news}
 use Rattle.mc_core.proofs.Steps.{all_same, as_told, fresh_at, one_changed, same_clients, some_life, stands_on}
 
@@ -136,23 +138,29 @@ first_comes value e s i c later at comes =
     comes ∙ ap (λ (cs : List ClientNo). pushes_to (table_of value s) e (reverse s.journal) cs ++ later) at
     ∙ parted (table_of value s) e (reverse s.journal) c (drop (i + 1) s.order) later
 
-pub rest_comes : (value : ℕ → Facts → Reading) (e : Event) (by : ℕ) (s s' : CoreState) (i : ℕ) (later : List Effect)
-    → coming value s' ≡ pushes_to (table_of value s) e (reverse s.journal) (drop (i + 1) s.order) ++ later
-    → Adds is_push by (reverse s.journal) (reverse s'.journal) → Within 1 s s'
-    → ComesWith value e (drop (i + 1) s'.order) later s'
-rest_comes value e by s s' i later comes adds w =
+-- what is to come, told of a journal to which writings and pushes were added since
+pub comes_behind : (value : ℕ → Facts → Reading) (e : Event) (by : ℕ) (s s' : CoreState) (cs : List ClientNo) (later : List Effect)
+    → coming value s' ≡ pushes_to (table_of value s) e (reverse s.journal) cs ++ later
+    → Adds is_news by (reverse s.journal) (reverse s'.journal) → s'.entries ≡ s.entries
+    → ComesWith value e cs later s'
+comes_behind value e by s s' cs later comes adds es =
     let t : Table = table_of value s in
-    let ts : table_of value s ≡ table_of value s' = ap (λ (x : List _). record { value = value; entries = x }) (sym w.entries) in
-    let same : pushes_to t e (reverse s.journal) (drop (i + 1) s.order) ≡ pushes_to t e (reverse s'.journal) (drop (i + 1) s'.order) =
-    sym (news_pushes t e by (reverse s.journal) (reverse s'.journal) (drop (i + 1) s.order)
-    (adds_as is_push _ by (reverse s.journal) (reverse s'.journal) push_is_news adds))
-    ∙ ap (λ (cs : List ClientNo). pushes_to t e (reverse s'.journal) (drop (i + 1) cs)) (sym w.order) in
-    comes ∙ ap (λ (es : List Effect). es ++ later) (same ∙ ap (λ (x : Table). pushes_to x e (reverse s'.journal) (drop (i + 1) s'.order)) ts)
+    let ts : table_of value s ≡ table_of value s' = ap (λ (x : List PropEntry). record { value = value; entries = x }) (sym es) in
+    comes ∙ ap (λ (xs : List Effect). xs ++ later)
+    (sym (news_pushes t e by (reverse s.journal) (reverse s'.journal) cs adds)
+    ∙ ap (λ (x : Table). pushes_to x e (reverse s'.journal) cs) ts)
+
+pub comes_whole : (value : ℕ → Facts → Reading) (e : Event) (s : CoreState) (cs : List ClientNo)
+    → coming value s ≡ pushes_to (table_of value s) e (reverse s.journal) cs → ComesWith value e cs [] s
+comes_whole value e s cs comes = comes ∙ sym (append-nil (pushes_to (table_of value s) e (reverse s.journal) cs))
+
+pub same_order : (n : ℕ) (s s' : CoreState) → Within n s s' → s'.order ≡ s.order
+same_order n s s' w = ap (λ (x : Readings). x.order) w.same
 
 pub within_more : (n : ℕ) (a b c : CoreState) → Within n a b → Within 1 b c → Within (n + 1) a c
 within_more n a b c x y = record {
   entries = y.entries ∙ x.entries;
-  order = y.order ∙ x.order;
+  same = y.same ∙ x.same;
   room = let p = x.room in let q = y.room in omega arith;
 }
 
@@ -208,4 +216,6 @@ comes_more value e x by s s' i c later is at ahead adds w comes =
     let l : List Effect = pushes_to (table_of value s) e (reverse s.journal) (drop (i + 1) s.order) ++ later in
     let first : ComesWith value x (c ∷ []) l s =
     subst (λ (y : Event). ComesWith value y (c ∷ []) l s) (sym is) (first_comes value e s i c later at comes) in
-    rest_comes value e by s s' i later (ahead l first) adds w
+    subst (λ (cs : List ClientNo). ComesWith value e (drop (i + 1) cs) later s') (sym (same_order 1 s s' w))
+    (comes_behind value e by s s' (drop (i + 1) s.order) later (ahead l first)
+    (adds_as is_push is_news by (reverse s.journal) (reverse s'.journal) push_is_news adds) w.entries)

@@ -8,3 +8,4 @@ pub mod Pushing
 pub mod Replying
 pub mod Changes
 pub mod Working
+pub mod Follow

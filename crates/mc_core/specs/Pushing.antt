@@ -8,7 +8,7 @@ use Rattle.mc_props.specs.declared.reading.Reading.{Reading}
 use Rattle.mc_client.specs.declared.refusal.Pushed.{Pushed}
 use Rattle.mc_client.specs.declared.refusal.Pushed.TheVariants.{Kept, Dropped, Off}
 use Rattle.mc_player.specs.Effects.{Effect, pushes_to, rest}
-use Rattle.mc_core.specs.Stands.{CoreState, table_of}
+use Rattle.mc_core.specs.Stands.{CoreState, readings_of, table_of}
 use Rattle.mc_core.specs.declared.pushing.Signal.{Signal}
 use Rattle.mc_core.specs.declared.pushing.Signal.TheVariants as signal
 
@@ -39,8 +39,8 @@ ComesWith value e cs later s =
 abbrev pub IsToPush : (ℕ → Facts → Reading) → Event → List ClientNo → CoreState → Type 0
 IsToPush value e cs s = (later : List Effect) × ComesWith value e cs later s
 
--- at most so many records were written
+-- at most so many records were written, and nothing changed but clients
 pub record Within (n : ℕ) (old new : CoreState) : Type 0 where
   pub entries : new.entries ≡ old.entries
-  pub order : new.order ≡ old.order
+  pub same : readings_of new ≡ readings_of old
   pub room : old.spare ≤ new.spare + n

@@ -60,7 +60,7 @@ impl<F: Reads<M>, M: Meaning> State<F, M> {
         requires facts { facts ≡ self.old.facts }
         requires room { 0 < self.old.spare }
         ensures wrote { Wrote self.old self.new (WroteRecord by mask facts) }
-        ensures order { self.new.order ≡ self.old.order }
+        ensures within { Within 1 self.old self.new }
     {
         self.journal
             .push_reserved(CoreRecord::Wrote { by, mask, facts });

@@ -7,6 +7,7 @@ mod clients;
 mod core_error;
 mod deeds;
 mod flags;
+mod follow;
 mod learning;
 mod lives;
 mod making;

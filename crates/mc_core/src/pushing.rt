@@ -68,7 +68,7 @@ fn noted(by: u32, client: ClientNo, event: Event, pushed: Pushed) -> Option<Core
     }
 }
 
-fn client_at(order: &[ClientNo], i: usize) -> ClientNo
+pub(crate) fn client_at(order: &[ClientNo], i: usize) -> ClientNo
     requires { i < length order.now }
     ensures { drop i order.now ≡ result ∷ drop (i + 1) order.now }
 {

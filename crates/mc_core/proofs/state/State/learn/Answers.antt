@@ -1,12 +1,13 @@
 use Rattle.std.proofs.Common.{rules, ◌≡◌, ap}
 use Rattle.mc_core.specs.Stands.{CoreState}
 use Rattle.mc_core.proofs.Learnt.{learnt_adds, planned, quiet_news}
+use Rattle.mc_core.proofs.Telling.{same_order}
 use Rattle.mc_core.proofs.state.State.learn.Goals as goal
 
 pub restarted-requires-clause-plan : goal.restarted-requires-clause-plan
 restarted-requires-clause-plan g c =
     planned g.M.Meaning.value c.args.by c.args.view c.in_ok-facts.facts _ c.make_room_for_all.new.self c.learned.new.self c.wrote.new.self c.is_due-due.result
-    c.self.view_is c.self.invariant c.learned.ensures.wrote c.learned.ensures.order c.wrote.ensures.wrote c.wrote.ensures.order c.is_due-due.ensures
+    c.self.view_is c.self.invariant c.learned.ensures.wrote c.learned.ensures.order c.wrote.ensures.wrote (same_order 1 c.learned.new.self c.wrote.new.self c.wrote.ensures.within) c.is_due-due.ensures
 
 pub returns-clause-adds : goal.returns-clause-adds
 returns-clause-adds g c =

@@ -10,3 +10,5 @@ pub mod Changed
 pub mod Learnt
 pub mod Taken
 pub mod Followed
+pub mod Worked
+pub mod Done

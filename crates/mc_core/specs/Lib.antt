@@ -9,3 +9,4 @@ pub mod Replying
 pub mod Changes
 pub mod Working
 pub mod Follow
+pub mod Doing

@@ -6,6 +6,7 @@ mod answering;
 mod clients;
 mod core_error;
 mod deeds;
+mod doing;
 mod flags;
 mod follow;
 mod learning;
@@ -17,5 +18,6 @@ mod replying;
 mod requests;
 mod state;
 mod taking;
+mod working;
 
 pub use core_error::CoreError;

@@ -1,7 +1,8 @@
 //! Requests that are taken, orders that are given, and their outcomes.
-ghost use Rattle.std.specs.Prelude.{◌≡◌, ◌<◌, ◌||◌, IsSomeAnd, reverse, None as Nothing};
-ghost use Rattle.mc_player.specs.Facts.{is_quit};
-ghost use Rattle.mc_player.specs.Journals.{is_load};
+ghost use Rattle.std.specs.Prelude.{◌≡◌, ◌<◌, ◌||◌, IsSomeAnd, Option, false, reverse, slice_get, None as Nothing};
+ghost use Rattle.mc_player.specs.Facts.{after_did, is_quit};
+ghost use Rattle.mc_player.specs.Deeds.{after_deed};
+ghost use Rattle.mc_player.specs.Journals.{is_load, is_refusal};
 ghost use Rattle.mc_player.specs.Rules.{IsOutcome, MayOrder};
 ghost use Rattle.mc_player.specs.declared.record.CoreRecord.TheVariants.{Did, Ordered, Took};
 ghost use Rattle.mc_core.specs.Calls.{Wrote};
@@ -36,6 +37,10 @@ impl<F: Reads<M>, M: Meaning> State<F, M> {
         requires room { 0 < self.old.spare }
         ensures wrote { Wrote self.old self.new (Took by c ticket id) }
         ensures order { self.new.order ≡ self.old.order }
+        ensures facts { self.new.facts ≡ after_deed deed self.old.facts }
+        ensures work { self.new.work ≡ slice_get self.old.queue.requests 0 }
+        ensures deed { self.new.deed ≡ deed }
+        ensures none { (self.new.out ≡ self.old.out) × (self.new.refused ≡ false) }
     {
         let mask = deed_mask(&deed);
         flag_all(
@@ -64,6 +69,7 @@ impl<F: Reads<M>, M: Meaning> State<F, M> {
         requires may { MayOrder (table_of M.value self.old) (reverse self.old.journal) order }
         requires room { 0 < self.old.spare }
         ensures wrote { Wrote self.old self.new (Ordered by order) }
+        ensures out { self.new.out ≡ Option.Some order }
     {
         self.loading = loads(order, self.loading);
         self.out = Some(order);
@@ -79,6 +85,9 @@ impl<F: Reads<M>, M: Meaning> State<F, M> {
         requires room { 0 < self.old.spare }
         ensures wrote { Wrote self.old self.new (Did by outcome) }
         ensures order { self.new.order ≡ self.old.order }
+        ensures facts { self.new.facts ≡ after_did outcome self.old.facts }
+        ensures work { (self.new.work ≡ self.old.work) × (self.new.deed ≡ self.old.deed) }
+        ensures none { (self.new.out ≡ Nothing) × (self.new.refused ≡ is_refusal outcome) }
     {
         let mask = outcome_mask(&outcome);
         flag_all(

@@ -10,3 +10,4 @@ pub mod Changes
 pub mod Working
 pub mod Follow
 pub mod Doing
+pub mod Core

@@ -1,4 +1,3 @@
-use mc_ring::RingError;
 use std::alloc::AllocError;
 
 /// Why a call of a core was refused. The core is then as it was.
@@ -26,19 +25,5 @@ impl From<AllocError> for CoreError {
 
     fn from(_error: AllocError) -> CoreError {
         CoreError::NoMemory
-    }
-}
-
-impl From<RingError> for CoreError {
-    ghost use Rattle.std.specs.Prelude.{◌≡◌};
-    ghost use Rattle.mc_core.specs.Errors.{error_of};
-
-    ghost from_gives = { λ r e. e ≡ error_of r };
-
-    fn from(error: RingError) -> CoreError {
-        match error {
-            RingError::BadSize => CoreError::BadSize,
-            RingError::NoMemory => CoreError::NoMemory,
-        }
     }
 }

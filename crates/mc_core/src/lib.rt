@@ -3,7 +3,9 @@
 #![tactic(auto)]
 
 mod answering;
+mod calls;
 mod clients;
+mod core;
 mod core_error;
 mod deeds;
 mod doing;
@@ -20,4 +22,5 @@ mod state;
 mod taking;
 mod working;
 
+pub use core::Core;
 pub use core_error::CoreError;

@@ -1,9 +1,10 @@
-ghost use Rattle.std.specs.Prelude.{◌≡◌, []};
+ghost use Rattle.std.specs.Prelude.{◌≡◌, [], None as Nothing};
+ghost use Rattle.mc_props.specs.First.{first_facts};
 ghost use Rattle.mc_core.specs.Stands.{IsQuiet};
 
 use crate::state::State;
 use mc_dispatch::Dispatch;
-use mc_player::Deed;
+use mc_player::{CoreJournal, Deed};
 use mc_props::meanings::Meaning;
 use mc_props::{Facts, PropTable, Reads};
 use slab::Slab;
@@ -14,6 +15,7 @@ impl<F: Reads<M>, M: Meaning> State<F, M> {
     pub(crate) fn new(alloc: Global, table: PropTable<F, M>) -> Self
         ensures empty { result.journal ≡ [] }
         ensures entries { result.entries ≡ table }
+        ensures facts { (result.facts ≡ first_facts) × (result.out ≡ Nothing) }
         ensures quiet { IsQuiet M.value result }
     {
         State {
@@ -32,5 +34,12 @@ impl<F: Reads<M>, M: Meaning> State<F, M> {
             quits: false,
             journal: Vec::new(alloc),
         }
+    }
+
+    /// The journal alone.
+    pub(crate) fn into_journal(self) -> CoreJournal
+        ensures { result.items ≡ self.journal }
+    {
+        self.journal
     }
 }

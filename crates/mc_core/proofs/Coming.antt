@@ -62,12 +62,18 @@ created_next value s by c name size cs order j n st done free changes fits few u
     let dead : life_of t c.0 h ≡ None = sym (st.clients.lives c.0) ∙ ap (option_map life) free in
     let listed : s.order ≡ clients h = ap (λ (x : Readings). x.order) st.tells in
     stands_on value s (record s { clients = cs; order = order; journal = j; spare = n }) (Created by c name size) js refl (record {
-      allowed = ((record {
-        number = dead;
-        unnamed = unnamed;
-        fits = fits;
-        few = subst (λ (xs : List ClientNo). length xs < 64) listed few;
-      }, done), st.allowed);
+      allowed = (
+        (
+          record {
+            number = dead;
+            unnamed = unnamed;
+            fits = fits;
+            few = subst (λ (xs : List ClientNo). length xs < 64) listed few;
+          },
+          done,
+        ),
+        st.allowed,
+      );
       clients = record {
         lives = λ d. elim (cases_Bool (c.0 == d)) [
           | inl y ↦ let e : c.0 ≡ d = eqb-true c.0 d y in

@@ -89,14 +89,17 @@ ends_now value by x o s s1 s2 (Some e) quiet d ends nothing =
     ∙ ap (λ (b : Bool). if b then command_error else deed_error s1.deed) d.none.1
     ∙ ap (λ (y : Deed). if is_refusal x then command_error else deed_error y) d.work.1 in
     let given : deed_value s2.deed ≡ deed_value s.deed =
-    ap (λ (y : Readings). deed_value y.deed) d.same ∙ ap deed_value d.work.1 in
-    (record {
-      none_due = done_due value by x o s s1 s2 quiet d;
-      none_left = nothing;
-      none_out = ap (λ (y : Readings). y.out) d.same ∙ d.none.0;
-      reply = subst (λ (w : Option Request). IsSomeAnd w (λ q. IsReply e.client e.ticket e.reply.event q (error_now s2) (deed_value s2.deed))) (sym work)
-          (some_end e.client e.ticket e.reply x s s2 s.work ends.0 wrong given);
-    }, twice_told e.client e.ticket e.reply x s s.work ends.0, ends.1)
+    ap (λ (y : Readings). deed_value y.deed) d.same ∙ ap deed_value d.work.1 in (
+      record {
+        none_due = done_due value by x o s s1 s2 quiet d;
+        none_left = nothing;
+        none_out = ap (λ (y : Readings). y.out) d.same ∙ d.none.0;
+        reply = subst (λ (w : Option Request). IsSomeAnd w (λ q. IsReply e.client e.ticket e.reply.event q (error_now s2) (deed_value s2.deed))) (sym work)
+            (some_end e.client e.ticket e.reply x s s2 s.work ends.0 wrong given);
+      },
+      twice_told e.client e.ticket e.reply x s s.work ends.0,
+      ends.1,
+    )
 
 pub done_adds : (by : ℕ) (x : Outcome) (o s s1 s2 s3 : CoreState) → IsDone by x o s s1 s2 → Adds is_reply by (reverse s2.journal) (reverse s3.journal)
     → Adds is_effect by (Did by x ∷ reverse o.journal) (reverse s3.journal)

@@ -12,3 +12,4 @@ pub mod Taken
 pub mod Followed
 pub mod Worked
 pub mod Done
+pub mod Grown

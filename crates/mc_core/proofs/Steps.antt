@@ -127,8 +127,14 @@ called_next value s by d ticket call a k k' cs q j n st done at may at' others i
     let h : List CoreRecord = reverse s.journal in
     let facts : s.facts ≡ facts_of t h = ap (λ (x : Readings). x.facts) st.tells in
     stands_on value s (record s { clients = cs; queue = q; journal = j; spare = n }) (Called by d ticket call a) js refl (record {
-      allowed = ((subst (λ (o : Option Life). IsSomeAnd o (MayCall t h d ticket call a))
-          (sym (some_life t s.clients s.facts h d.0 k st.clients at)) may, done), st.allowed);
+      allowed = (
+        (
+          subst (λ (o : Option Life). IsSomeAnd o (MayCall t h d ticket call a))
+              (sym (some_life t s.clients s.facts h d.0 k st.clients at)) may,
+          done,
+        ),
+        st.allowed,
+      );
       clients = one_changed t s.clients cs s.facts h d.0 k k' (Called by d ticket call a)
           (λ (x : Life). life_asked ticket (life_called t (facts_of t h) call a x))
           st.clients at at' others (λ c l. refl)

@@ -83,10 +83,16 @@ push_some value s by c e kept p sl j n st due here told js = by_case (get s.clie
         let hs : reverse j ≡ Pushed by c e kept ∷ h = as_told s.journal j (Pushed by c e kept) js in
         record {
           stands = stands_on value s (record s { clients = sl; journal = j; spare = n }) (Pushed by c e kept) js refl (record {
-            allowed = ((record {
-              next = ap (λ (es : List Effect). slice_get es 0) next;
-              fate = subst (λ (o : Option Life). IsSomeAnd o (λ l. kept ≡ not (is_full l.ring))) (sym was) b.1;
-            }, tt), st.allowed);
+            allowed = (
+              (
+                record {
+                  next = ap (λ (es : List Effect). slice_get es 0) next;
+                  fate = subst (λ (o : Option Life). IsSomeAnd o (λ l. kept ≡ not (is_full l.ring))) (sym was) b.1;
+                },
+                tt,
+              ),
+              st.allowed,
+            );
             clients = one_changed t s.clients sl s.facts h c.0 k (after_push_of k e) (Pushed by c e kept) (life_pushed kept e)
                 st.clients is x.stands here.others (λ d l. refl) b.2
                 (subst (λ ws. Fresh value s.entries s.facts ws) (sym b.3) fresh);
@@ -191,7 +197,7 @@ push_noted value d s by c e told r p sl j n same st due here is some js =
         ahead = λ later comes. made.ahead later (subst (ComesWith value e (c ∷ []) later) (sym same) comes);
       },
       subst (λ (y : CoreState). Adds is_push by (reverse y.journal) (reverse j)) same
-      (adds_record is_push by s.journal j (Pushed by c e x.0) js' refl refl),
+          (adds_record is_push by s.journal j (Pushed by c e x.0) js' refl refl),
     )
 
 pub push_silent : (value : ℕ → Facts → Reading) (d s : CoreState) (by : ℕ) (c : ClientNo) (e told : Event) (p : PushAnswer) (sl : Slab ClientState)

@@ -27,7 +27,7 @@ use Rattle.mc_core.specs.Growth.{Adds, is_effect, is_news, is_reply as is_reply_
 use Rattle.mc_core.specs.Pushing.{Within, coming}
 use Rattle.mc_core.specs.Replying.{IsEnd, error_now}
 use Rattle.mc_core.specs.Stands.{CoreState, IsQuiet, Readings, readings_of, table_of}
-use Rattle.mc_core.specs.Working.{IsClose, IsFollow, IsNext, IsTask, Works, order_in}
+use Rattle.mc_core.specs.Working.{IsClose, IsFollow, IsNext, IsTask, Works, order_in, out_by}
 use Rattle.mc_core.specs.declared.follow.Follow.{Follow}
 use Rattle.mc_core.specs.declared.follow.Follow.TheVariants as follow
 use Rattle.mc_core.specs.declared.follow.Twice.{Twice}
@@ -276,3 +276,18 @@ task_due value by task s s1 x p is ends w os =
     follow_due value s s1 (Took by task.client task.ticket task.id) x (plan_deed (table_of value s) (reverse s.journal) task.deed) w is.listed os (λ e c. refl)
     (took_coming value by task.client task.ticket task.id task.deed s s1 w is.does)
     ((replies_by value task s x p is ends).0.plan (table_of value s) (reverse s.journal))
+
+order_out : (d : Deed) (o : Order) → order_in d ≡ Some o → Some o ≡ out_by o
+order_out (deed.Seeks time dir) o e = let y : order.Seek time dir ≡ o = cc in subst (λ (x : Order). Some x ≡ out_by x) y refl
+order_out (deed.Selects set at) o e = let y : order.Select set at ≡ o = cc in subst (λ (x : Order). Some x ≡ out_by x) y refl
+order_out (deed.Fails x) o e = absurd (cc)
+order_out deed.Ignores o e = absurd (cc)
+order_out (deed.Gives x) o e = absurd (cc)
+order_out (deed.Pauses x) o e = absurd (cc)
+order_out (deed.Mutes x) o e = absurd (cc)
+order_out (deed.Sends x) o e = absurd (cc)
+order_out (deed.SendsTo c x) o e = absurd (cc)
+order_out deed.Quits o e = absurd (cc)
+
+pub task_out : (value : ℕ → Facts → Reading) (task : Task) (s : CoreState) (o : Order) → IsTask value task s → task.close ≡ close.Orders o → Some o ≡ out_by o
+task_out value task s o is ends = order_out task.deed o (asks_order value task s o is ends)

@@ -61,6 +61,14 @@ pub record IsTask (value : ℕ → Facts → Reading) (task : Task) (s : CoreSta
   pub does : task.deed ≡ next_deed (table_of value s) (reverse s.journal)
   pub listed : s.order ≡ clients (reverse s.journal)
 
+-- the order that is out behind work: none where nothing was asked
+abbrev pub out_by : Order → Option Order
+out_by order.Idle = None
+out_by order.Finished = None
+out_by order.Load = Some order.Load
+out_by (order.Seek time dir) = Some (order.Seek time dir)
+out_by (order.Select set at) = Some (order.Select set at)
+
 -- what work left behind a journal, by the order that it answered: nothing where no request waits or
 -- the player ends; the order for the file; a taken request with its order, or with its effects and
 -- its reply

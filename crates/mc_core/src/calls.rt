@@ -71,12 +71,7 @@ impl<F: Reads<M>, M: Meaning> State<F, M> {
     }
 
     /// A client comes, if it may.
-    pub(crate) fn create(
-        &mut self,
-        by: u32,
-        name: Text,
-        size: u32,
-    ) -> Result<ClientNo, CoreError>
+    pub(crate) fn create(&mut self, by: u32, name: Text, size: u32) -> Result<ClientNo, CoreError>
         requires quiet { IsQuiet M.value self.old }
         ensures refused { Refuses result
             (refusal_of_client (reverse self.old.journal) name size) }

@@ -1,11 +1,12 @@
 ghost use Rattle.std.specs.Prelude.{◌≡◌, ◌∷◌, IfOk, IsSomeAnd, None as Nothing, OnErr, OnOk, length, nat_le};
+ghost use Rattle.mc_player.specs.Facts.{after_did, with_view};
 ghost use Rattle.mc_player.specs.Rules.{IsOutcome};
 ghost use Rattle.mc_player.specs.declared.record.CoreRecord.TheVariants.{Created, Destroyed, Did, Learned};
 ghost use Rattle.mc_core.specs.Calls.{Answers};
 ghost use Rattle.mc_core.specs.Core.{IsCore, history, new_core, table_in};
 ghost use Rattle.mc_core.specs.Errors.{Refuses, full_or, refusal_of_call, refusal_of_client};
 ghost use Rattle.mc_core.specs.Growth.{Adds, Grew, is_effect, is_news};
-ghost use Rattle.mc_core.specs.Working.{Works};
+ghost use Rattle.mc_core.specs.Working.{Works, out_by};
 
 use crate::core_error::CoreError;
 use crate::state::State;
@@ -101,16 +102,12 @@ impl<F: Reads<M>, M: Meaning> Core<F, M> {
     /// A client comes, with room for `size` events and places for replies in its ring. Refused in
     /// this order: `JournalFull`; `NameTaken` where a living client has the name; `TooMany` where
     /// there are 64; `BadSize` where the size is not from 1 to 100,000; `NoMemory`.
-    pub fn create_client(
-        &mut self,
-        by: u32,
-        name: Text,
-        size: u32,
-    ) -> Result<ClientNo, CoreError>
+    pub fn create_client(&mut self, by: u32, name: Text, size: u32) -> Result<ClientNo, CoreError>
         ensures refused { Refuses result (full_or (history self.old)
             (refusal_of_client (history self.old) name size)) }
         ensures made { IfOk result
             (λ c. history self.new ≡ Created by c name size ∷ history self.old) }
+        ensures grows { OnOk result (Grew by (history self.old) (history self.new)) }
         ensures table { self.new.entries ≡ self.old.entries }
         ensures err { OnErr result (self.new ≡ self.old) }
     {
@@ -126,6 +123,7 @@ impl<F: Reads<M>, M: Meaning> Core<F, M> {
         ensures refused { Refuses result (full_or (history self.old)
             (refusal_of_call (table_in M.value self.old) c (history self.old))) }
         ensures gone { OnOk result (history self.new ≡ Destroyed by c ∷ history self.old) }
+        ensures grows { OnOk result (Grew by (history self.old) (history self.new)) }
         ensures table { self.new.entries ≡ self.old.entries }
         ensures err { OnErr result (self.new ≡ self.old) }
     {
@@ -147,6 +145,7 @@ impl<F: Reads<M>, M: Meaning> Core<F, M> {
             (refusal_of_call (table_in M.value self.old) c (history self.old))) }
         ensures answers { IfOk result
             (λ a. Answers by c call a (history self.old) (history self.new)) }
+        ensures grows { OnOk result (Grew by (history self.old) (history self.new)) }
         ensures table { self.new.entries ≡ self.old.entries }
         ensures err { OnErr result (self.new ≡ self.old) }
     {
@@ -166,6 +165,8 @@ impl<F: Reads<M>, M: Meaning> Core<F, M> {
         ensures refused { Refuses result (full_or (history self.old) Nothing) }
         ensures adds { OnOk result
             (Adds is_news by (Learned by view ∷ history self.old) (history self.new)) }
+        ensures facts { OnOk result (self.new.facts ≡ with_view self.old.facts view) }
+        ensures grows { OnOk result (Grew by (history self.old) (history self.new)) }
         ensures table { self.new.entries ≡ self.old.entries }
         ensures err { OnErr result (self.new ≡ self.old) }
     {
@@ -184,6 +185,8 @@ impl<F: Reads<M>, M: Meaning> Core<F, M> {
         ensures refused { Refuses result (full_or (history self.old) Nothing) }
         ensures works { IfOk result (λ o. Works (table_in M.value self.old) by
             (history self.old) o (history self.new)) }
+        ensures out { IfOk result (λ o. self.new.out ≡ out_by o) }
+        ensures grows { OnOk result (Grew by (history self.old) (history self.new)) }
         ensures table { self.new.entries ≡ self.old.entries }
         ensures err { OnErr result (self.new ≡ self.old) }
     {
@@ -200,6 +203,9 @@ impl<F: Reads<M>, M: Meaning> Core<F, M> {
         ensures refused { Refuses result (full_or (history self.old) Nothing) }
         ensures adds { OnOk result
             (Adds is_effect by (Did by outcome ∷ history self.old) (history self.new)) }
+        ensures facts { OnOk result (self.new.facts ≡ after_did outcome self.old.facts) }
+        ensures none_out { OnOk result (self.new.out ≡ Nothing) }
+        ensures grows { OnOk result (Grew by (history self.old) (history self.new)) }
         ensures table { self.new.entries ≡ self.old.entries }
         ensures err { OnErr result (self.new ≡ self.old) }
     {

@@ -163,7 +163,10 @@ impl<F: Reads<M>, M: Meaning> State<F, M> {
             }
             Command::Set { name, value } => {
                 let value = Value::Str(value);
-                set_deed(&self.facts, self.table.set(name.as_str(), &self.facts, &value))
+                set_deed(
+                    &self.facts,
+                    self.table.set(name.as_str(), &self.facts, &value),
+                )
             }
             Command::Cycle { name } => Ok(cycle_deed(&self.facts, name.as_str())),
             Command::Message { words } => Ok(Deed::Sends(words)),
@@ -194,7 +197,10 @@ impl<F: Reads<M>, M: Meaning> State<F, M> {
                 get_deed(self.table.get(name.as_str(), &self.facts, *format))
             }
             Call::Set { name, value, .. } => {
-                set_deed(&self.facts, self.table.set(name.as_str(), &self.facts, value))
+                set_deed(
+                    &self.facts,
+                    self.table.set(name.as_str(), &self.facts, value),
+                )
             }
             Call::Command { words, .. } => self.words_deed(words),
             _ => Ok(Deed::Ignores),

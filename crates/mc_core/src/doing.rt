@@ -1,5 +1,5 @@
 //! The outcome of an order is told.
-ghost use Rattle.std.specs.Prelude.{◌≡◌, ◌<◌, IfOk, IsSomeAnd, IsTrue, OnErr, OnOk, [], ◌∷◌, length, reverse};
+ghost use Rattle.std.specs.Prelude.{◌≡◌, ◌<◌, IfOk, IsSomeAnd, IsTrue, OnErr, OnOk, None as Nothing, [], ◌∷◌, length, reverse};
 ghost use Rattle.mc_client.specs.Client.{is_reply as is_client_reply};
 ghost use Rattle.mc_player.specs.Deeds.{deed_value, reply_of};
 ghost use Rattle.mc_player.specs.Facts.{after_did};
@@ -43,12 +43,7 @@ fn error_behind(outcome: &Outcome, deed: &Deed) -> i32
     }
 }
 
-fn end_of(
-    alloc: Global,
-    request: &Request,
-    outcome: &Outcome,
-    deed: &Deed,
-) -> Result<End, NoMemory>
+fn end_of(alloc: Global, request: &Request, outcome: &Outcome, deed: &Deed) -> Result<End, NoMemory>
     ensures same { IfOk result
         (λ e. (e.client ≡ request.now.client) × (e.ticket ≡ request.now.ticket)) }
     ensures reply { IfOk result (λ e. IsTwice (reply_of request.now.call
@@ -111,6 +106,7 @@ impl<F: Reads<M>, M: Meaning> State<F, M> {
         requires none { coming M.value self.old ≡ [] }
         requires room { 0 < self.old.spare }
         ensures adds { Adds is_reply by (reverse self.old.journal) (reverse self.new.journal) }
+        ensures still { (self.new.out ≡ self.old.out) × (self.new.facts ≡ self.old.facts) }
         ensures entries { self.new.entries ≡ self.old.entries }
         ensures quiet { IsQuiet M.value self.new }
     {
@@ -126,6 +122,8 @@ impl<F: Reads<M>, M: Meaning> State<F, M> {
         requires outcome { IsSomeAnd self.old.out (λ o. IsOutcome o outcome) }
         ensures adds { OnOk result (Adds is_effect by
             (Did by outcome ∷ reverse self.old.journal) (reverse self.new.journal)) }
+        ensures facts { OnOk result (self.new.facts ≡ after_did outcome self.old.facts) }
+        ensures none_out { OnOk result (self.new.out ≡ Nothing) }
         ensures entries { self.new.entries ≡ self.old.entries }
         ensures quiet { IsQuiet M.value self.new }
         ensures err { OnErr result (IsAsBefore self.old self.new) }

@@ -52,11 +52,7 @@ pub(crate) fn message(alloc: Global, words: &Words) -> Result<Twice, NoMemory>
 }
 
 /// A message for each of so many clients.
-pub(crate) fn messages(
-    alloc: Global,
-    words: &Words,
-    count: usize,
-) -> Result<Vec<Twice>, NoMemory>
+pub(crate) fn messages(alloc: Global, words: &Words, count: usize) -> Result<Vec<Twice>, NoMemory>
     ensures all { IfOk result (λ ps. AllByRecursion (IsTwice (event.Message words.now)) ps.items) }
     ensures long { IfOk result (λ ps. length ps.items ≡ count) }
 {
@@ -77,7 +73,7 @@ impl<F: Reads<M>, M: Meaning> State<F, M> {
         ensures ahead { (later : List Effect)
             → ComesWith M.value (event.Message words.now) (drop i self.old.order) later self.old
             → ComesWith M.value (event.Message words.now) (drop (i + 1) self.new.order) later
-                self.new }
+            self.new }
         ensures adds { Adds is_push by (reverse self.old.journal) (reverse self.new.journal) }
         ensures within { Within 1 self.old self.new }
     {

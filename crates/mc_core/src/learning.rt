@@ -103,6 +103,7 @@ impl<F: Reads<M>, M: Meaning> State<F, M> {
         requires quiet { IsQuiet M.value self.old }
         ensures adds { OnOk result (Adds is_news by
             (Learned by view ∷ reverse self.old.journal) (reverse self.new.journal)) }
+        ensures facts { OnOk result (self.new.facts ≡ with_view self.old.facts view) }
         ensures entries { self.new.entries ≡ self.old.entries }
         ensures quiet { IsQuiet M.value self.new }
         ensures err { OnErr result (IsAsBefore self.old self.new) }

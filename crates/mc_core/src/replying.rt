@@ -132,19 +132,13 @@ impl<F: Reads<M>, M: Meaning> State<F, M> {
     }
 
     /// Replies to the request that is worked, which ends it.
-    pub(crate) fn end_work(
-        &mut self,
-        by: u32,
-        c: ClientNo,
-        ticket: u64,
-        reply: Event,
-        told: Event,
-    )
+    pub(crate) fn end_work(&mut self, by: u32, c: ClientNo, ticket: u64, reply: Event, told: Event)
         requires end { IsEnd M.value c ticket reply self.old }
         requires same { told ≡ reply }
         requires kind { IsTrue (is_reply reply) }
         requires room { 0 < self.old.spare }
         ensures wrote { Wrote self.old self.new (Replied by c ticket reply) }
+        ensures still { (self.new.out ≡ self.old.out) × (self.new.facts ≡ self.old.facts) }
         ensures quiet { IsQuiet M.value self.new }
     {
         reply_at(&mut self.clients, c.0 as usize, reply);

@@ -123,12 +123,7 @@ impl<F: Reads<M>, M: Meaning> State<F, M> {
     }
 
     /// A request: it is refused, or waits.
-    pub(crate) fn request(
-        &mut self,
-        by: u32,
-        c: ClientNo,
-        call: Call,
-    ) -> Result<Answer, NoMemory>
+    pub(crate) fn request(&mut self, by: u32, c: ClientNo, call: Call) -> Result<Answer, NoMemory>
         requires quiet { IsQuiet M.value self.old }
         requires lives { ContainsKey self.old.clients c.0 }
         requires room { 0 < self.old.spare }

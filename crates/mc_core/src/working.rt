@@ -5,7 +5,7 @@ ghost use Rattle.mc_player.specs.Deeds.{after_deed, deed_error, deed_value, repl
 ghost use Rattle.mc_core.specs.Calls.{IsAsBefore};
 ghost use Rattle.mc_core.specs.Follow.{IsTwice};
 ghost use Rattle.mc_core.specs.Stands.{IsQuiet, Stands, table_of};
-ghost use Rattle.mc_core.specs.Working.{IsClose, IsFollow, IsTask, Works, order_in};
+ghost use Rattle.mc_core.specs.Working.{IsClose, IsFollow, IsTask, Works, order_in, out_by};
 
 use crate::deeds::apply;
 use crate::follow::{Follow, Twice, message, messages};
@@ -171,6 +171,7 @@ impl<F: Reads<M>, M: Meaning> State<F, M> {
         requires room { length self.old.order + length self.old.order + 4 ≤ self.old.spare }
         ensures works { Works (table_of M.value self.old) by (reverse self.old.journal) result
             (reverse self.new.journal) }
+        ensures out { self.new.out ≡ out_by result }
         ensures entries { self.new.entries ≡ self.old.entries }
         ensures quiet { IsQuiet M.value self.new }
     {
@@ -201,6 +202,7 @@ impl<F: Reads<M>, M: Meaning> State<F, M> {
         requires none_out { self.old.out ≡ Nothing }
         ensures works { IfOk result (λ o. Works (table_of M.value self.old) by
             (reverse self.old.journal) o (reverse self.new.journal)) }
+        ensures out { IfOk result (λ o. self.new.out ≡ out_by o) }
         ensures entries { self.new.entries ≡ self.old.entries }
         ensures quiet { IsQuiet M.value self.new }
         ensures err { OnErr result (IsAsBefore self.old self.new) }

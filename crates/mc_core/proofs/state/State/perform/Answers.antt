@@ -1,6 +1,6 @@
-use Rattle.std.proofs.Common.{rules, ◌≡◌, sym}
+use Rattle.std.proofs.Common.{rules, ◌≡◌, ◌∙◌}
 use Rattle.mc_core.specs.Stands.{table_of}
-use Rattle.mc_core.proofs.Worked.{IsWorked, asks_order, order_may, order_works, replies_by, task_due, worked_adds, worked_end}
+use Rattle.mc_core.proofs.Worked.{IsWorked, asks_order, order_may, order_works, replies_by, task_due, task_out, worked_adds, worked_end}
 use Rattle.mc_core.proofs.state.State.perform.Goals as goal
 
 pub ordered-requires-clause-may : goal.ordered-requires-clause-may
@@ -30,8 +30,15 @@ end_work-requires-clause-same g c =
     (replies_by g.M.Meaning.value c.args.task c.args.self.now c.in-Replies.follow c.in-Replies.reply c.requires.task c.in-Replies.is).1
 
 pub returns-in-Replies-clause-works : goal.returns-in-Replies-clause-works
-returns-in-Replies-clause-works g c =
-    (c.args.task.client, c.args.task.ticket, c.args.task.id,
-    worked_adds c.args.by c.args.task c.in-Replies.reply.event c.args.self.now c.took.new.self c.follow.new.self c.end_work.new.self
-    (record { took = c.took.ensures.wrote; work = c.took.ensures.work; deed = c.took.ensures.deed; none = c.took.ensures.none; news = c.follow.ensures.adds; same = c.follow.ensures.within.same })
-    c.end_work.ensures.wrote)
+returns-in-Replies-clause-works g c = (
+  c.args.task.client,
+  c.args.task.ticket,
+  c.args.task.id,
+  worked_adds c.args.by c.args.task c.in-Replies.reply.event c.args.self.now c.took.new.self c.follow.new.self c.end_work.new.self
+      (record { took = c.took.ensures.wrote; work = c.took.ensures.work; deed = c.took.ensures.deed; none = c.took.ensures.none; news = c.follow.ensures.adds; same = c.follow.ensures.within.same })
+      c.end_work.ensures.wrote,
+)
+
+pub returns-in-Orders-clause-out : goal.returns-in-Orders-clause-out
+returns-in-Orders-clause-out g c =
+    c.ordered.ensures.out ∙ task_out g.M.Meaning.value c.args.task c.args.self.now c.in-Orders.order c.requires.task c.in-Orders.is

@@ -4,10 +4,12 @@ use Rattle.mc_core.proofs.Followed.{news_of, next_comes}
 use Rattle.mc_core.proofs.state.State.push_end.Goals as goal
 
 pub push_all-requires-2-clause-due : goal.push_all-requires-2-clause-due
-push_all-requires-2-clause-due g c =
-    ([], next_comes g.M.Meaning.value event.Shutdown c.args.by (length c.args.self.now.order) c.args.self.now c.push_all.new.self
-    (c.push_all.ensures.ahead _ c.requires.due)
-    (news_of c.args.by c.args.self.now c.push_all.new.self c.push_all.ensures.adds) c.push_all.ensures.within)
+push_all-requires-2-clause-due g c = (
+  [],
+  next_comes g.M.Meaning.value event.Shutdown c.args.by (length c.args.self.now.order) c.args.self.now c.push_all.new.self
+      (c.push_all.ensures.ahead _ c.requires.due)
+      (news_of c.args.by c.args.self.now c.push_all.new.self c.push_all.ensures.adds) c.push_all.ensures.within,
+)
 
 pub returns-clause-none : goal.returns-clause-none
 returns-clause-none g c = c.push_all-2.ensures.ahead [] (

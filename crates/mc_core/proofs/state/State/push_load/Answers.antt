@@ -7,12 +7,14 @@ use Rattle.mc_core.proofs.Telling.{within_more}
 use Rattle.mc_core.proofs.state.State.push_load.Goals as goal
 
 pub push_all-requires-2-clause-due : goal.push_all-requires-2-clause-due
-push_all-requires-2-clause-due g c =
-    ([], next_comes g.M.Meaning.value event.FileLoaded c.args.by (length c.args.self.now.order + 1) c.args.self.now c.wrote.new.self
-    (behind_write g.M.Meaning.value c.args.by 12 c.args.facts _ c.push_all.new.self c.wrote.new.self (c.push_all.ensures.ahead _ c.requires.due) c.wrote.ensures.wrote)
-    (adds_then is_news c.args.by _ _ _ (news_of c.args.by c.args.self.now c.push_all.new.self c.push_all.ensures.adds)
-    (wrote_news c.args.by 12 c.args.facts c.push_all.new.self c.wrote.new.self c.wrote.ensures.wrote))
-    (within_more (length c.args.self.now.order) _ _ _ c.push_all.ensures.within c.wrote.ensures.within))
+push_all-requires-2-clause-due g c = (
+  [],
+  next_comes g.M.Meaning.value event.FileLoaded c.args.by (length c.args.self.now.order + 1) c.args.self.now c.wrote.new.self
+      (behind_write g.M.Meaning.value c.args.by 12 c.args.facts _ c.push_all.new.self c.wrote.new.self (c.push_all.ensures.ahead _ c.requires.due) c.wrote.ensures.wrote)
+      (adds_then is_news c.args.by _ _ _ (news_of c.args.by c.args.self.now c.push_all.new.self c.push_all.ensures.adds)
+      (wrote_news c.args.by 12 c.args.facts c.push_all.new.self c.wrote.new.self c.wrote.ensures.wrote))
+      (within_more (length c.args.self.now.order) _ _ _ c.push_all.ensures.within c.wrote.ensures.within),
+)
 
 pub returns-clause-none : goal.returns-clause-none
 returns-clause-none g c = c.push_all-2.ensures.ahead [] (

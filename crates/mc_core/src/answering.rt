@@ -42,6 +42,7 @@ impl<F: Reads<M>, M: Meaning> State<F, M> {
         requires quiet { IsQuiet M.value self.old }
         requires lives { ContainsKey self.old.clients c.0 }
         requires room { 0 < self.old.spare }
+        ensures still { (self.new.out ≡ self.old.out) × (self.new.facts ≡ self.old.facts) }
         ensures ok { IfOk result
             (λ e. Wrote self.old self.new (Called by c Nothing call.Poll (answer.Event e))) }
         ensures err { OnErr result (IsAsBefore self.old self.new) }
@@ -71,6 +72,7 @@ impl<F: Reads<M>, M: Meaning> State<F, M> {
         requires quiet { IsQuiet M.value self.old }
         requires lives { ContainsKey self.old.clients c.0 }
         requires room { 0 < self.old.spare }
+        ensures still { (self.new.out ≡ self.old.out) × (self.new.facts ≡ self.old.facts) }
         ensures ok { IfOk result (λ b. Wrote self.old self.new
             (Called by c Nothing (call.Observe id name format) (done_if b))) }
         ensures err { OnErr result (IsAsBefore self.old self.new) }
@@ -98,7 +100,8 @@ impl<F: Reads<M>, M: Meaning> State<F, M> {
         requires quiet { IsQuiet M.value self.old }
         requires lives { ContainsKey self.old.clients c.0 }
         requires room { 0 < self.old.spare }
-        ensures { Wrote self.old self.new
+        ensures still { (self.new.out ≡ self.old.out) × (self.new.facts ≡ self.old.facts) }
+        ensures wrote { Wrote self.old self.new
             (Called by c Nothing (call.Unobserve id) (answer.Removed result)) }
     {
         let count = unobserve_at(&mut self.clients, c.0 as usize, id);
@@ -123,6 +126,7 @@ impl<F: Reads<M>, M: Meaning> State<F, M> {
         requires quiet { IsQuiet M.value self.old }
         requires lives { ContainsKey self.old.clients c.0 }
         requires room { 0 < self.old.spare }
+        ensures still { (self.new.out ≡ self.old.out) × (self.new.facts ≡ self.old.facts) }
         ensures ok { IfOk result (λ b. Wrote self.old self.new
             (Called by c Nothing (call.Event number on) (done_if b))) }
         ensures err { OnErr result (IsAsBefore self.old self.new) }

@@ -57,6 +57,7 @@ impl<F: Reads<M>, M: Meaning> State<F, M> {
         requires fits { IsSize size }
         requires few { length self.old.order < 64 }
         requires unnamed { named (reverse self.old.journal) name ≡ Nothing }
+        ensures still { (self.new.out ≡ self.old.out) × (self.new.facts ≡ self.old.facts) }
         ensures made { IfOk result (λ c. reverse self.new.journal ≡
             Created by c name size ∷ reverse self.old.journal) }
         ensures entries { self.new.entries ≡ self.old.entries }
@@ -73,6 +74,7 @@ impl<F: Reads<M>, M: Meaning> State<F, M> {
     /// A client comes, if it may.
     pub(crate) fn create(&mut self, by: u32, name: Text, size: u32) -> Result<ClientNo, CoreError>
         requires quiet { IsQuiet M.value self.old }
+        ensures still { (self.new.out ≡ self.old.out) × (self.new.facts ≡ self.old.facts) }
         ensures refused { Refuses result
             (refusal_of_client (reverse self.old.journal) name size) }
         ensures made { IfOk result (λ c. reverse self.new.journal ≡
@@ -98,6 +100,7 @@ impl<F: Reads<M>, M: Meaning> State<F, M> {
     pub(crate) fn destroy(&mut self, by: u32, c: ClientNo) -> Result<(), NoMemory>
         requires quiet { IsQuiet M.value self.old }
         requires lives { ContainsKey self.old.clients c.0 }
+        ensures still { (self.new.out ≡ self.old.out) × (self.new.facts ≡ self.old.facts) }
         ensures gone { OnOk result (reverse self.new.journal ≡
             Destroyed by c ∷ reverse self.old.journal) }
         ensures entries { self.new.entries ≡ self.old.entries }
@@ -113,6 +116,7 @@ impl<F: Reads<M>, M: Meaning> State<F, M> {
     pub(crate) fn answer(&mut self, by: u32, c: ClientNo, call: Call) -> Result<Answer, NoMemory>
         requires quiet { IsQuiet M.value self.old }
         requires lives { ContainsKey self.old.clients c.0 }
+        ensures still { (self.new.out ≡ self.old.out) × (self.new.facts ≡ self.old.facts) }
         ensures answers { IfOk result (λ a.
             Answers by c call a (reverse self.old.journal) (reverse self.new.journal)) }
         ensures entries { self.new.entries ≡ self.old.entries }

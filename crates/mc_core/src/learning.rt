@@ -39,6 +39,7 @@ impl<F: Reads<M>, M: Meaning> State<F, M> {
         requires room { 0 < self.old.spare }
         ensures wrote { Wrote self.old self.new (Learned by view) }
         ensures facts { self.new.facts ≡ with_view self.old.facts view }
+        ensures out { self.new.out ≡ self.old.out }
         ensures order { self.new.order ≡ self.old.order }
     {
         flag_all(
@@ -103,6 +104,7 @@ impl<F: Reads<M>, M: Meaning> State<F, M> {
         requires quiet { IsQuiet M.value self.old }
         ensures adds { OnOk result (Adds is_news by
             (Learned by view ∷ reverse self.old.journal) (reverse self.new.journal)) }
+        ensures out { self.new.out ≡ self.old.out }
         ensures facts { OnOk result (self.new.facts ≡ with_view self.old.facts view) }
         ensures entries { self.new.entries ≡ self.old.entries }
         ensures quiet { IsQuiet M.value self.new }

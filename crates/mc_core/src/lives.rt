@@ -119,6 +119,7 @@ impl<F: Reads<M>, M: Meaning> State<F, M> {
         requires key { self.old.clients.vacant_key ≡ c.0 }
         requires place { HasRoomFor self.old.clients 1 }
         requires room { 0 < self.old.spare }
+        ensures still { (self.new.out ≡ self.old.out) × (self.new.facts ≡ self.old.facts) }
         ensures ok { OnOk result (Wrote self.old self.new (Created by c name size)) }
         ensures err { OnErr result (IsRoomy self.old self.new) }
     {
@@ -139,7 +140,8 @@ impl<F: Reads<M>, M: Meaning> State<F, M> {
         requires quiet { IsQuiet M.value self.old }
         requires lives { ContainsKey self.old.clients c.0 }
         requires room { 0 < self.old.spare }
-        ensures { Wrote self.old self.new (Destroyed by c) }
+        ensures still { (self.new.out ≡ self.old.out) × (self.new.facts ≡ self.old.facts) }
+        ensures wrote { Wrote self.old self.new (Destroyed by c) }
     {
         self.clients.try_remove(c.0 as usize);
         self.queue.drop_client(c);

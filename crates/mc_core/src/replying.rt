@@ -52,7 +52,8 @@ impl<F: Reads<M>, M: Meaning> State<F, M> {
     fn reply_due(&mut self, by: u32, request: &Request)
         requires due { slice_get (due (reverse self.old.journal)) 0 ≡ Some request.now }
         requires room { 0 < self.old.spare }
-        ensures { Wrote self.old self.new (Replied by request.now.client request.now.ticket
+        ensures still { (self.new.out ≡ self.old.out) × (self.new.facts ≡ self.old.facts) }
+        ensures wrote { Wrote self.old self.new (Replied by request.now.client request.now.ticket
             (reply_of request.now.call generic_error value.None)) }
     {
         let reply = reply_of(&request.call, -20, Value::None);
@@ -69,6 +70,7 @@ impl<F: Reads<M>, M: Meaning> State<F, M> {
     /// Replies to all requests that are due, the oldest first.
     fn reply_all(&mut self, by: u32, requests: &[Request])
         requires drained { IsDrained M.value requests.now 0 self.old }
+        ensures still { (self.new.out ≡ self.old.out) × (self.new.facts ≡ self.old.facts) }
         ensures quiet { IsQuiet M.value self.new }
         ensures entries { self.new.entries ≡ self.old.entries }
         ensures adds { Adds is_reply_record by
@@ -84,6 +86,7 @@ impl<F: Reads<M>, M: Meaning> State<F, M> {
         requires quiet { IsQuiet M.value self.old }
         requires lives { ContainsKey self.old.clients c.0 }
         requires room { length self.old.queue.requests + 1 ≤ self.old.spare }
+        ensures still { (self.new.out ≡ self.old.out) × (self.new.facts ≡ self.old.facts) }
         ensures removed { IfOk result
             (λ qs. qs ≡ filter (is_named c id) self.old.queue.requests) }
         ensures ok { IfOk result (λ qs. Wrote self.old self.new
@@ -117,6 +120,7 @@ impl<F: Reads<M>, M: Meaning> State<F, M> {
     pub(crate) fn abort(&mut self, by: u32, c: ClientNo, id: u64) -> Result<u32, NoMemory>
         requires quiet { IsQuiet M.value self.old }
         requires lives { ContainsKey self.old.clients c.0 }
+        ensures still { (self.new.out ≡ self.old.out) × (self.new.facts ≡ self.old.facts) }
         ensures adds { IfOk result (λ n. Adds is_reply_record by
             (Called by c Nothing (call.Abort id) (answer.Removed n) ∷ reverse self.old.journal)
             (reverse self.new.journal)) }

@@ -72,7 +72,8 @@ impl<F: Reads<M>, M: Meaning> State<F, M> {
         requires asks { is_request call ≡ true }
         requires error { MatchBool (is_bad call) (error ≡ invalid_parameter)
             (IsFullAt self.old.clients c.0 × (error ≡ queue_full)) }
-        ensures { Wrote self.old self.new (Called by c Nothing call (answer.Refused error)) }
+        ensures still { (self.new.out ≡ self.old.out) × (self.new.facts ≡ self.old.facts) }
+        ensures wrote { Wrote self.old self.new (Called by c Nothing call (answer.Refused error)) }
     {
         self.journal.push_reserved(CoreRecord::Called {
             by,
@@ -101,7 +102,8 @@ impl<F: Reads<M>, M: Meaning> State<F, M> {
         requires fits { is_bad call ≡ false }
         requires free { IsFreeAt self.old.clients c.0 }
         requires same { told ≡ call }
-        ensures { Wrote self.old self.new
+        ensures still { (self.new.out ≡ self.old.out) × (self.new.facts ≡ self.old.facts) }
+        ensures wrote { Wrote self.old self.new
             (Called by c (Option.Some (length self.old.journal)) call answer.Ok) }
     {
         let ticket = self.journal.len() as u64;
@@ -128,6 +130,7 @@ impl<F: Reads<M>, M: Meaning> State<F, M> {
         requires lives { ContainsKey self.old.clients c.0 }
         requires room { 0 < self.old.spare }
         requires asks { is_request call ≡ true }
+        ensures still { (self.new.out ≡ self.old.out) × (self.new.facts ≡ self.old.facts) }
         ensures ok { IfOk result (λ a. Wrote self.old self.new
             (Called by c (ticket_for (length self.old.journal) a) call a)) }
         ensures err { OnErr result (IsAsBefore self.old self.new) }

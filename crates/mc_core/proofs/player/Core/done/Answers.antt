@@ -3,9 +3,9 @@ use Rattle.mc_core.proofs.Grown.{grew_behind}
 use Rattle.std.specs.Prelude.{reverse}
 use Rattle.mc_core.specs.Core.{CoreView, history}
 use Rattle.mc_core.specs.Growth.{Grew}
-use Rattle.mc_core.proofs.core.Core.learn.Goals as goal
+use Rattle.mc_core.proofs.player.Core.done.Goals as goal
 
 pub returns-clause-grows : goal.returns-clause-grows
 returns-clause-grows g c =
-    subst (λ (v : CoreView). Grew c.args.by (history v) (reverse c.learn.new.self.journal)) c.self.view_is
-    (grew_behind _ c.args.by _ _ _ refl c.in_ok-learn.ensures.adds)
+    subst (λ (v : CoreView). Grew c.args.by (history v) (reverse c.done.new.self.journal)) c.self.view_is
+    (grew_behind _ c.args.by _ _ _ refl c.in_ok-done.ensures.adds)

@@ -3,7 +3,7 @@ use Rattle.mc_core.proofs.Grown.{grew_created}
 use Rattle.std.specs.Prelude.{reverse}
 use Rattle.mc_core.specs.Core.{CoreView, history}
 use Rattle.mc_core.specs.Growth.{Grew}
-use Rattle.mc_core.proofs.core.Core.create_client.Goals as goal
+use Rattle.mc_core.proofs.player.Core.create_client.Goals as goal
 
 pub returns-clause-grows : goal.returns-clause-grows
 returns-clause-grows g c =

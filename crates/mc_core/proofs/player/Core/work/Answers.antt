@@ -4,7 +4,7 @@ use Rattle.std.specs.Prelude.{reverse}
 use Rattle.mc_core.specs.Core.{CoreView, history}
 use Rattle.mc_core.specs.Stands.{table_of}
 use Rattle.mc_core.specs.Growth.{Grew}
-use Rattle.mc_core.proofs.core.Core.work.Goals as goal
+use Rattle.mc_core.proofs.player.Core.work.Goals as goal
 
 pub returns-clause-grows : goal.returns-clause-grows
 returns-clause-grows g c =

@@ -108,6 +108,7 @@ impl<F: Reads<M>, M: Meaning> Core<F, M> {
         ensures made { IfOk result
             (λ c. history self.new ≡ Created by c name size ∷ history self.old) }
         ensures grows { OnOk result (Grew by (history self.old) (history self.new)) }
+        ensures still { (self.new.out ≡ self.old.out) × (self.new.facts ≡ self.old.facts) }
         ensures table { self.new.entries ≡ self.old.entries }
         ensures err { OnErr result (self.new ≡ self.old) }
     {
@@ -124,6 +125,7 @@ impl<F: Reads<M>, M: Meaning> Core<F, M> {
             (refusal_of_call (table_in M.value self.old) c (history self.old))) }
         ensures gone { OnOk result (history self.new ≡ Destroyed by c ∷ history self.old) }
         ensures grows { OnOk result (Grew by (history self.old) (history self.new)) }
+        ensures still { (self.new.out ≡ self.old.out) × (self.new.facts ≡ self.old.facts) }
         ensures table { self.new.entries ≡ self.old.entries }
         ensures err { OnErr result (self.new ≡ self.old) }
     {
@@ -146,6 +148,7 @@ impl<F: Reads<M>, M: Meaning> Core<F, M> {
         ensures answers { IfOk result
             (λ a. Answers by c call a (history self.old) (history self.new)) }
         ensures grows { OnOk result (Grew by (history self.old) (history self.new)) }
+        ensures still { (self.new.out ≡ self.old.out) × (self.new.facts ≡ self.old.facts) }
         ensures table { self.new.entries ≡ self.old.entries }
         ensures err { OnErr result (self.new ≡ self.old) }
     {
@@ -167,6 +170,7 @@ impl<F: Reads<M>, M: Meaning> Core<F, M> {
             (Adds is_news by (Learned by view ∷ history self.old) (history self.new)) }
         ensures facts { OnOk result (self.new.facts ≡ with_view self.old.facts view) }
         ensures grows { OnOk result (Grew by (history self.old) (history self.new)) }
+        ensures out { self.new.out ≡ self.old.out }
         ensures table { self.new.entries ≡ self.old.entries }
         ensures err { OnErr result (self.new ≡ self.old) }
     {

@@ -12,6 +12,7 @@ use std::fmt::Write;
 
 // The numbers of the callers: the player itself, and the client.
 const PLAYER: u32 = 1;
+
 const CLIENT: u32 = 6;
 
 /// The client's life, and what its polls give.
@@ -23,7 +24,15 @@ pub fn life<F: Reads<Standard>>(
     let c = core.create_client(CLIENT, Text::new(alloc, "a")?, 16)?;
     let name = Text::new(alloc, "pause")?;
     let format = Format::Flag;
-    core.call(CLIENT, c, Call::Observe { id: 1, name, format })?;
+    core.call(
+        CLIENT,
+        c,
+        Call::Observe {
+            id: 1,
+            name,
+            format,
+        },
+    )?;
     poll_all(core, c, out)?;
     work(alloc, core)?;
     let name = Text::new(alloc, "pause")?;

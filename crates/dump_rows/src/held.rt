@@ -14,11 +14,14 @@ use std::fmt::Write;
 /// The tracks and the packets of the film that is written next.
 #[derive(Drop)]
 pub struct Held {
+    /// Its tracks, in the order of their rows.
     pub tracks: TrackList,
+    /// Its packets, in the order of their rows.
     pub packets: Packets,
 }
 
 impl Held {
+    /// No track and no packet.
     pub fn new(alloc: Global) -> Held {
         Held {
             tracks: TrackList::new(alloc),

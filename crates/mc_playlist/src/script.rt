@@ -49,7 +49,9 @@ fn parse_text(alloc: Global, text: &str) -> Result<ListScript, ListError>
 /// The acts of the lines so far, and how many lines they are.
 #[derive(Drop)]
 pub struct Reading {
+    /// The acts of the lines so far, in their order.
     pub script: ListScript,
+    /// How many lines they are, those without an act too.
     pub number: u32,
 }
 

@@ -19,7 +19,8 @@ use std::rt::Files;
 /// place below it cannot be read.
 ///
 /// It keeps a window of 65,536 octets of the file that was read last, so that reads of few octets
-/// seldom ask the system. A read of more octets than that goes straight into its buffer.
+/// seldom ask the system, also where they look a little ahead and come back. A read of more octets
+/// than that goes straight into its buffer.
 #[derive(Drop)]
 pub struct FileShelf<'a, R: Files> {
     rt: &'a R,
@@ -94,7 +95,7 @@ impl<'a, R: Files> FileShelf<'a, R> {
             return Some(held);
         }
         if self.window.has_room_for(buf.len()) {
-            self.window.fill(file, number, pos).ok()?;
+            self.window.fill(file, number, pos, buf.len()).ok()?;
             return Some(self.window.copy_to(number, pos, buf));
         }
         let count = buf.len().min((END - pos) as usize);

@@ -115,7 +115,10 @@ impl Window {
         } else {
             LEAST
         };
-        self.size = ((pos - first) as usize).saturating_add(wanted).max(least).min(SIZE);
+        self.size = ((pos - first) as usize)
+            .saturating_add(wanted)
+            .max(least)
+            .min(SIZE);
         self.read(source, file, first)?;
         if first < pos && self.offset_of(file, pos).is_none() {
             self.read(source, file, pos)?;

@@ -57,7 +57,7 @@ TOPICS = [
         "Readings of the journal",
         "What a journal says: the selected tracks, each reader's place, the cached ranges, the pending seek. "
         "And the film of which it tells, with the rule that a seek goes by.",
-        "mc_journal/ mc_calls/ mc_world/ mc_index/ mc_range/ mc_queue/ mc_cache/",
+        "mc_journal/ mc_calls/ mc_jobs/ mc_index/ mc_range/ mc_queue/ mc_cache/",
     ),
     (
         "The walk",

@@ -9,3 +9,9 @@ pub mod Asking
 pub mod Choosing
 pub mod Drained
 pub mod Playing
+pub mod Staying
+pub mod Called
+pub mod Outcomes
+pub mod Shown
+pub mod Rested
+pub mod Ruling

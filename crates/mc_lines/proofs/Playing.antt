@@ -21,7 +21,8 @@ use Rattle.mc_journal.specs.Drives.{Readings, gives_none, is_order, is_outcome}
 use Rattle.mc_journal.specs.Callers.{by_of}
 use Rattle.mc_lines.specs.declared.halt.Halt.{Halt}
 use Rattle.mc_lines.specs.declared.halt.Halt.TheVariants as halts
-use Rattle.mc_lines.specs.Calls.{Ahead, Bears, Brings, Jobs, Outcome, at, number_of}
+use Rattle.mc_jobs.specs.Doing.{number_of}
+use Rattle.mc_lines.specs.Calls.{Ahead, Bears, Brings, Jobs, Outcome, at}
 use Rattle.mc_lines.specs.Lines.{Grows, Line, Orders, Stands, settled}
 use Rattle.mc_lines.specs.Runs.{Goes, IsAged, IsAwaited, IsFree, IsOut, Keeps, Took}
 use Rattle.mc_lines.proofs.Counts.{count-one}

@@ -27,11 +27,12 @@ use Rattle.mc_calls.specs.declared.answer.Reading.TheVariants as reads
 use Rattle.mc_calls.specs.declared.answer.Peek.{Peek}
 use Rattle.mc_calls.specs.declared.answer.Peek.TheVariants as peeks
 use Rattle.mc_calls.specs.declared.job.Job.{Job}
-use Rattle.mc_calls.specs.declared.job.Job.TheVariants.{SeekTo, Refresh, Resume, Read, Idle}
+use Rattle.mc_calls.specs.declared.job.Job.TheVariants.{Idle}
 use Rattle.mc_calls.specs.Outcomes.{HasRisen}
 use Rattle.mc_calls.specs.Records.{HasRoom, WroteAll}
 use Rattle.mc_journal.specs.Drives.{Readings, OfEach, is_order, is_outcome, newest, selection, untold}
 use Rattle.mc_journal.specs.Callers.{by_of, demuxer}
+use Rattle.mc_jobs.specs.Doing.{number_of}
 
 -- ---- what the next calls would answer
 
@@ -72,13 +73,6 @@ pub record Fixed : Type 0 where
 pub record Jobs : Type 0 where
   pub number : ℕ
   pub kept : Option Job
-
-abbrev pub number_of : Job → Option ℕ
-number_of (SeekTo n set t dir) = Some n
-number_of (Refresh n added lead at) = Some n
-number_of (Resume n mark) = Some n
-number_of (Read n) = Some n
-number_of Idle = None
 
 -- a job that bears the number is the one whose outcome is awaited
 abbrev pub Bears : Job → Jobs → Type 0

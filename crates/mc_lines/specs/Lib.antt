@@ -4,3 +4,4 @@ pub mod Nexts
 pub mod Lines
 pub mod Runs
 pub mod Films
+pub mod Machines

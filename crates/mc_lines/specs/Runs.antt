@@ -9,7 +9,8 @@ use Rattle.mc_script.specs.Plays.{Begins, Leaves, Played, PlayedInPart, taken_af
 use Rattle.mc_journal.specs.Drives.{Readings, is_order}
 use Rattle.mc_lines.specs.declared.halt.Halt.{Halt}
 use Rattle.mc_lines.specs.declared.halt.Halt.TheVariants as halts
-use Rattle.mc_lines.specs.Calls.{Ahead, Jobs, number_of}
+use Rattle.mc_jobs.specs.Doing.{number_of}
+use Rattle.mc_lines.specs.Calls.{Ahead, Jobs}
 use Rattle.mc_lines.specs.Lines.{Stands}
 
 -- ---- the job that is out

@@ -32,12 +32,12 @@ use Rattle.mc_lines.specs.declared.halt.Halt.{Halt}
 use Rattle.mc_lines.specs.Calls.{FailsIn, Fixed}
 use Rattle.mc_lines.specs.Lines.{Grows}
 use Rattle.mc_lines.specs.Runs.{Runs}
-use Rattle.mc_world.specs.declared.driver.Driver.{Driver}
-use Rattle.mc_world.specs.Driving.{Drives}
+use Rattle.mc_jobs.specs.declared.driver.Driver.{Driver}
+use Rattle.mc_jobs.specs.Driving.{Drives}
 use Rattle.mc_filmed.specs.Films.{film_for, choice_for}
-use Rattle.mc_world.specs.Machines.{Stands, fixed_of}
-use Rattle.mc_world.proofs.Opened.{begins-together, has-tracks}
-use Rattle.mc_world.proofs.Ruling.{stands_for}
+use Rattle.mc_lines.specs.Machines.{Stands, fixed_of}
+use Rattle.mc_jobs.proofs.Opened.{begins-together, has-tracks}
+use Rattle.mc_lines.proofs.Ruling.{stands_for}
 use Rattle.mc_play.specs.Asked.{name_at}
 use Rattle.mc_play.specs.Opening.{IsOpened as IsOpenedFilm, OpensFilm}
 use Rattle.mc_play.specs.Run.{Plays, PlaysFilm}

@@ -14,18 +14,18 @@ ghost use Rattle.mc_journal.specs.Films.{Film};
 ghost use Rattle.mc_calls.specs.Demuxers.{IsDemux};
 ghost use Rattle.mc_calls.specs.Film.{StandsFor};
 ghost use Rattle.mc_calls.specs.Opening.{HasTracks, IsOpened};
-ghost use Rattle.mc_world.specs.Driving.{Drives};
+ghost use Rattle.mc_jobs.specs.Driving.{Drives};
 
 use mc_cursor::Cursor;
 use mc_demux::{Demux, DemuxError};
 use mc_index::Index;
+use mc_jobs::Driver;
 use mc_journal::DemuxJournal;
 use mc_lines::{Halt, run_script};
 use mc_outside::Shelf;
 use mc_packet::{Limits, NoMemory};
 use mc_script::Script;
 use mc_tracks::{TrackList, default_choice};
-use mc_world::Driver;
 use std::alloc::{AllocError, Global};
 
 /// What a script left, and why it halted before its end.

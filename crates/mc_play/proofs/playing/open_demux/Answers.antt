@@ -2,7 +2,7 @@ use Rattle.std.proofs.Common.{◌≡◌, true, subst, sym}
 use Rattle.mc_packet.specs.declared.choice.Choice.{Choice}
 use Rattle.mc_packet.specs.Choices.{is_known}
 use Rattle.mc_calls.specs.Selecting.{knows}
-use Rattle.mc_world.proofs.Opened.{default-known}
+use Rattle.mc_jobs.proofs.Opened.{default-known}
 use Rattle.mc_play.proofs.Plays.{wide_limits}
 use Rattle.mc_play.proofs.playing.open_demux.Goals as goal
 

@@ -1,6 +1,0 @@
-use Rattle.mc_walk.specs.Parts.IsMark.{at_end}
-use Rattle.mc_world.proofs.Parting.{is-part}
-use Rattle.mc_world.proofs.law.film_parts.Goals as goal
-
-pub returns : goal.returns
-returns c = record { part = is-part; mark = λ plan m is. at_end m is }

@@ -1,6 +1,0 @@
-use Rattle.mc_world.proofs.Marking.{starts-mark}
-use Rattle.mc_world.proofs.Starts.{of-seek, of-switch}
-use Rattle.mc_world.proofs.law.film_starts.Goals as goal
-
-pub returns : goal.returns
-returns c = record { seek = of-seek; switch = of-switch; mark = starts-mark }

@@ -1,7 +1,6 @@
 -- The outcome of an order, its effects, and the reply to what is worked.
-use Rattle.std.proofs.Common.{◌≡◌, ℕ, Bool, true, false, List, [], ◌∷◌, ◌++◌, length, Option, Some, None, refl, sym, ap, subst, ◌∙◌, reverse}
-use Rattle.std.specs.Prelude.{IsSomeAnd, IsTrue, if◌then◌else◌}
-use Rattle.mc_client.specs.Client.{is_reply as is_client_reply}
+use Rattle.std.proofs.Common.{◌≡◌, ℕ, Bool, List, [], ◌∷◌, length, Option, Some, None, refl, sym, ap, subst, ◌∙◌, reverse}
+use Rattle.std.specs.Prelude.{IsSomeAnd, if◌then◌else◌}
 use Rattle.mc_dispatch.specs.declared.request.ClientNo.{ClientNo}
 use Rattle.mc_dispatch.specs.declared.request.Request.{Request}
 use Rattle.mc_props.specs.declared.facts.Facts.{Facts}
@@ -15,18 +14,19 @@ use Rattle.mc_player.specs.Effects.{plan_did, rest}
 use Rattle.mc_player.specs.Journals.{due, is_refusal}
 use Rattle.mc_player.specs.Lives.{Table}
 use Rattle.mc_player.specs.Rules.{IsReply}
-use Rattle.mc_core.specs.Calls.{Wrote}
-use Rattle.mc_core.specs.Doing.{Ends, EndsNow, IsAfter, error_behind}
-use Rattle.mc_core.specs.Follow.{IsTwice, plan_follow}
-use Rattle.mc_core.specs.Growth.{Adds, is_effect, is_news, is_reply}
-use Rattle.mc_core.specs.Pushing.{coming}
-use Rattle.mc_core.specs.Replying.{IsEnd, error_now}
-use Rattle.mc_core.specs.Stands.{CoreState, IsQuiet, Readings, Stands, readings_of, table_of}
-use Rattle.mc_core.specs.declared.doing.End.{End}
-use Rattle.mc_core.specs.declared.follow.Follow.{Follow}
-use Rattle.mc_core.specs.declared.follow.Twice.{Twice}
-use Rattle.mc_core.proofs.Growing.{adds_as, adds_then, due_same}
-use Rattle.mc_core.proofs.Steps.{as_told}
+use Rattle.mc_state.specs.Steps.{Wrote}
+use Rattle.mc_deeds.specs.Closes.{Ends, IsAfter, error_behind}
+use Rattle.mc_core.specs.Doing.{EndsNow}
+use Rattle.mc_deeds.specs.Follow.{IsTwice, plan_follow}
+use Rattle.mc_state.specs.Growth.{Adds, is_effect, is_news, is_reply}
+use Rattle.mc_state.specs.Pushing.{coming}
+use Rattle.mc_state.specs.Replying.{error_now}
+use Rattle.mc_state.specs.Stands.{CoreState, IsQuiet, Readings, Stands, readings_of, table_of}
+use Rattle.mc_deeds.specs.declared.replies.End.{End}
+use Rattle.mc_deeds.specs.declared.follow.Follow.{Follow}
+use Rattle.mc_deeds.specs.declared.follow.Twice.{Twice}
+use Rattle.mc_state.proofs.Growing.{adds_as, adds_then, due_same}
+use Rattle.mc_state.proofs.Steps.{as_told}
 use Rattle.mc_core.proofs.Worked.{follow_due, news_is_effect, reply_is_effect, same_table}
 
 did_coming : (value : ℕ → Facts → Reading) (by : ℕ) (x : Outcome) (s s' : CoreState) → Wrote s s' (Did by x)
@@ -80,7 +80,7 @@ twice_told c n e x s None h = absurd h
 twice_told c n e x s (Some q) h = (h.2).second ∙ sym (h.2).first
 
 pub ends_now : (value : ℕ → Facts → Reading) (by : ℕ) (x : Outcome) (o s s1 s2 : CoreState) (end : Option End) → IsQuiet value o → IsDone by x o s s1 s2
-    → Ends x s end → coming value s2 ≡ [] → EndsNow value end s2
+    → Ends x s.work s.deed end → coming value s2 ≡ [] → EndsNow value end s2
 ends_now value by x o s s1 s2 None quiet d ends nothing = ap (λ (y : Readings). y.work) d.same ∙ d.work.0 ∙ ends
 ends_now value by x o s s1 s2 (Some e) quiet d ends nothing =
     let work : s2.work ≡ s.work = ap (λ (y : Readings). y.work) d.same ∙ d.work.0 in

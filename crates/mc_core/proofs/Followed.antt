@@ -1,5 +1,5 @@
 -- What follows a taken request or an outcome, one part after the other.
-use Rattle.std.proofs.Common.{◌≡◌, ℕ, ◌+◌, ◌≤◌, Bool, true, List, [], ◌∷◌, ◌++◌, Some, refl, sym, ap, subst, ◌∙◌, drop, reverse, slice_get}
+use Rattle.std.proofs.Common.{◌≡◌, ℕ, List, [], ◌∷◌, ◌++◌, refl, sym, ap, subst, ◌∙◌, drop, reverse}
 use Rattle.mc_dispatch.specs.declared.request.ClientNo.{ClientNo}
 use Rattle.mc_ring.specs.declared.event.Event.{Event}
 use Rattle.mc_props.specs.declared.entries.PropEntry.{PropEntry}
@@ -9,13 +9,13 @@ use Rattle.mc_player.specs.declared.record.CoreRecord.{CoreRecord}
 use Rattle.mc_player.specs.declared.record.CoreRecord.TheVariants.{Wrote as WroteRecord}
 use Rattle.mc_player.specs.Effects.{Effect, Write, pushes_to, rest}
 use Rattle.mc_player.specs.Lives.{Table}
-use Rattle.mc_core.specs.Calls.{Wrote}
-use Rattle.mc_core.specs.Growth.{Adds, is_news, is_push}
-use Rattle.mc_core.specs.Pushing.{ComesWith, Within, coming}
-use Rattle.mc_core.specs.Stands.{CoreState, table_of}
-use Rattle.mc_core.proofs.Growing.{adds_as, adds_record, adds_then, push_is_news}
-use Rattle.mc_core.proofs.Steps.{as_told}
-use Rattle.mc_core.proofs.Telling.{comes_behind, comes_whole, same_order}
+use Rattle.mc_state.specs.Steps.{Wrote}
+use Rattle.mc_state.specs.Growth.{Adds, is_news, is_push}
+use Rattle.mc_state.specs.Pushing.{ComesWith, Within, coming}
+use Rattle.mc_state.specs.Stands.{CoreState, table_of}
+use Rattle.mc_state.proofs.Growing.{adds_as, adds_record, push_is_news}
+use Rattle.mc_state.proofs.Steps.{as_told}
+use Rattle.mc_state.proofs.Telling.{comes_behind, same_order}
 
 pub news_of : (by : ℕ) (s s' : CoreState) → Adds is_push by (reverse s.journal) (reverse s'.journal) → Adds is_news by (reverse s.journal) (reverse s'.journal)
 news_of by s s' a = adds_as is_push is_news by (reverse s.journal) (reverse s'.journal) push_is_news a

@@ -1,11 +1,9 @@
 -- What a call added bears its caller's number, and what the core holds behind it.
-use Rattle.std.proofs.Common.{◌≡◌, ℕ, Bool, true, false, List, [], ◌∷◌, ◌++◌, Option, Some, None, refl, sym, ap, subst, ◌∙◌, reverse}
+use Rattle.std.proofs.Common.{◌≡◌, ℕ, Bool, true, false, List, ◌∷◌, None, refl, sym, subst}
 use Rattle.std.specs.Bool.{MatchBool}
 use Rattle.std.specs.Prelude.{IfOk, OnOk, Result, Ok, Err}
 use Rattle.mc_dispatch.specs.declared.call.Call.{Call}
 use Rattle.mc_dispatch.specs.declared.request.ClientNo.{ClientNo}
-use Rattle.mc_props.specs.declared.facts.Facts.{Facts}
-use Rattle.mc_props.specs.declared.reading.Reading.{Reading}
 use Rattle.mc_player.specs.Callers.{by_of}
 use Rattle.mc_player.specs.declared.record.Answer.{Answer}
 use Rattle.mc_player.specs.declared.record.Order.{Order}
@@ -14,10 +12,10 @@ use Rattle.mc_player.specs.declared.record.CoreRecord.{CoreRecord}
 use Rattle.mc_player.specs.declared.record.CoreRecord.TheVariants.{Called, Created, Ordered, Took}
 use Rattle.mc_player.specs.Lives.{Table}
 use Rattle.mc_core.specs.Calls.{Answers, is_abort, ticket_of}
-use Rattle.mc_core.specs.Growth.{Adds, Grew, any, is_effect, is_reply}
+use Rattle.mc_state.specs.Growth.{Adds, Grew, any, is_effect, is_reply}
 use Rattle.mc_core.specs.Working.{Works}
 use Rattle.mc_core.specs.declared.core_error.CoreError.{CoreError}
-use Rattle.mc_core.proofs.Growing.{adds_as, adds_none, adds_one, adds_then}
+use Rattle.mc_state.proofs.Growing.{adds_as, adds_none, adds_one, adds_then}
 
 pub grew_one : (by : ℕ) (h h' : List CoreRecord) (r : CoreRecord) → h' ≡ r ∷ h → by_of r ≡ by → Grew by h h'
 grew_one by h h' r e own = adds_one any by h h' r e refl own

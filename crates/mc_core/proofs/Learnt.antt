@@ -12,13 +12,13 @@ use Rattle.mc_player.specs.declared.record.CoreRecord.TheVariants.{Learned, Wrot
 use Rattle.mc_player.specs.Effects.{Effect, plan_restart, pushes_to, reply_due, rest, restart}
 use Rattle.mc_player.specs.Journals.{clients, due}
 use Rattle.mc_player.specs.Lives.{Table}
-use Rattle.mc_core.specs.Calls.{Wrote}
-use Rattle.mc_core.specs.Changes.{MayRestart}
-use Rattle.mc_core.specs.Growth.{Adds, is_news, is_push}
-use Rattle.mc_core.specs.Pushing.{ComesWith, coming}
-use Rattle.mc_core.specs.Stands.{CoreState, IsQuiet, Readings, Stands, table_of}
-use Rattle.mc_core.proofs.Growing.{adds_as, adds_record, adds_then, due_same, push_is_news, pushes_same, told_same}
-use Rattle.mc_core.proofs.Steps.{as_told}
+use Rattle.mc_state.specs.Steps.{Wrote}
+use Rattle.mc_core.specs.Learning.{MayRestart}
+use Rattle.mc_state.specs.Growth.{Adds, is_news, is_push}
+use Rattle.mc_state.specs.Pushing.{ComesWith, coming}
+use Rattle.mc_state.specs.Stands.{CoreState, IsQuiet, Readings, Stands, table_of}
+use Rattle.mc_state.proofs.Growing.{adds_as, adds_record, adds_then, due_same, push_is_news, pushes_same, told_same}
+use Rattle.mc_state.proofs.Steps.{as_told}
 
 -- nothing is due behind writings and pushes that brought all that was to come
 pub quiet_news : (value : ℕ → Facts → Reading) (s : CoreState) (by : ℕ) (h : List CoreRecord) → Adds is_news by h (reverse s.journal)
@@ -44,10 +44,10 @@ two_more by view f s s1 s2 a b =
     as_told s1.journal s2.journal (WroteRecord by 16 f) b.journal
     ∙ ap (λ (x : List CoreRecord). WroteRecord by 16 f ∷ x) (as_told s.journal s1.journal (Learned by view) a.journal)
 
-pub planned : (value : ℕ → Facts → Reading) (by : ℕ) (view : CacheView) (f : Facts) (s0 s s1 s2 : CoreState) (d : Bool)
-    → s0 ≡ s → Stands value s0 → Wrote s s1 (Learned by view) → s1.order ≡ s.order
-    → Wrote s1 s2 (WroteRecord by 16 f) → s2.order ≡ s1.order → d ≡ (s0.restart && view.playing) → MayRestart value d s2
-planned value by view f s0 s s1 s2 d is st0 a oa b ob ds = by_case d whole
+pub planned : (value : ℕ → Facts → Reading) (by : ℕ) (view : CacheView) (f : Facts) (s s1 s2 : CoreState) (d : Bool)
+    → Stands value s → Wrote s s1 (Learned by view) → s1.order ≡ s.order
+    → Wrote s1 s2 (WroteRecord by 16 f) → s2.order ≡ s1.order → d ≡ (s.restart && view.playing) → MayRestart value d s2
+planned value by view f s s1 s2 d st a oa b ob ds = by_case d whole
   where
     t : Table
     t = table_of value s2
@@ -55,14 +55,11 @@ planned value by view f s0 s s1 s2 d is st0 a oa b ob ds = by_case d whole
     h : List CoreRecord
     h = reverse s.journal
 
-    st : Stands value s
-    st = subst (Stands value) is st0
-
     longer : reverse s2.journal ≡ WroteRecord by 16 f ∷ Learned by view ∷ h
     longer = two_more by view f s s1 s2 a b
 
     said : d ≡ (restart h && view.playing)
-    said = ds ∙ ap (λ (x : CoreState). x.restart && view.playing) is ∙ ap (λ (x : Readings). x.restart && view.playing) st.tells
+    said = ds ∙ ap (λ (x : Readings). x.restart && view.playing) st.tells
 
     whole : coming value s2 ≡ plan_restart t h d
     whole = ap (λ (x : List CoreRecord). rest t x) longer ∙ ap (plan_restart t h) (sym said)

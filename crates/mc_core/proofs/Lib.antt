@@ -1,14 +1,4 @@
-pub mod Steps
-pub mod Answered
-pub mod Coming
-pub mod Asking
-pub mod Flagging
-pub mod Growing
-pub mod Telling
-pub mod Replied
-pub mod Changed
 pub mod Learnt
-pub mod Taken
 pub mod Followed
 pub mod Worked
 pub mod Done

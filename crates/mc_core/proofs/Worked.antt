@@ -1,5 +1,5 @@
 -- A taken request: its order, or its effects and its reply.
-use Rattle.std.proofs.Common.{◌≡◌, ℕ, ◌+◌, ◌≤◌, inl, inr, Bool, true, false, not, ◌&&◌, List, [], ◌∷◌, ◌++◌, length, Option, Some, None, refl, sym, ap, subst, ◌∙◌, drop, reverse}
+use Rattle.std.proofs.Common.{◌≡◌, ℕ, Bool, true, false, ◌&&◌, List, [], ◌∷◌, length, Option, Some, None, refl, sym, ap, subst, ◌∙◌, drop, reverse}
 use Rattle.std.specs.Prelude.{IsSomeAnd, IsTrue, is_some, slice_get, if◌then◌else◌}
 use Rattle.mc_dispatch.specs.declared.request.ClientNo.{ClientNo}
 use Rattle.mc_dispatch.specs.declared.request.Request.{Request}
@@ -18,23 +18,25 @@ use Rattle.mc_player.specs.declared.record.CoreRecord.TheVariants.{Ordered, Repl
 use Rattle.mc_player.specs.Deeds.{after_deed, command_error, deed_error, deed_value, reply_of}
 use Rattle.mc_player.specs.Effects.{Effect, Give, hears, plan_deed, reply_due, rest}
 use Rattle.mc_player.specs.Facts.{life_of, next_deed}
-use Rattle.mc_player.specs.Journals.{clients, due, out, worked}
+use Rattle.mc_player.specs.Journals.{clients, due, worked}
 use Rattle.mc_player.specs.Lives.{Table}
 use Rattle.mc_player.specs.Rules.{IsReply, MayOrder}
-use Rattle.mc_core.specs.Calls.{Wrote}
-use Rattle.mc_core.specs.Follow.{FitsFollow, IsTwice, plan_follow}
-use Rattle.mc_core.specs.Growth.{Adds, is_effect, is_news, is_reply as is_reply_record}
-use Rattle.mc_core.specs.Pushing.{Within, coming}
-use Rattle.mc_core.specs.Replying.{IsEnd, error_now}
-use Rattle.mc_core.specs.Stands.{CoreState, IsQuiet, Readings, readings_of, table_of}
-use Rattle.mc_core.specs.Working.{IsClose, IsFollow, IsNext, IsTask, Works, order_in, out_by}
-use Rattle.mc_core.specs.declared.follow.Follow.{Follow}
-use Rattle.mc_core.specs.declared.follow.Follow.TheVariants as follow
-use Rattle.mc_core.specs.declared.follow.Twice.{Twice}
-use Rattle.mc_core.specs.declared.working.Close.TheVariants as close
+use Rattle.mc_state.specs.Steps.{Wrote}
+use Rattle.mc_deeds.specs.Follow.{plan_follow}
+use Rattle.mc_state.specs.Growth.{Adds, is_effect, is_news, is_reply as is_reply_record}
+use Rattle.mc_state.specs.Pushing.{coming}
+use Rattle.mc_state.specs.Replying.{IsEnd, error_now}
+use Rattle.mc_state.specs.Stands.{CoreState, IsQuiet, Readings, readings_of, table_of}
+use Rattle.mc_deeds.specs.Closes.{IsClose, IsFollow, order_in}
+use Rattle.mc_state.specs.Taking.{IsNext}
+use Rattle.mc_core.specs.Working.{IsTask, Works, out_by}
+use Rattle.mc_deeds.specs.declared.follow.Follow.{Follow}
+use Rattle.mc_deeds.specs.declared.follow.Follow.TheVariants as follow
+use Rattle.mc_deeds.specs.declared.follow.Twice.{Twice}
+use Rattle.mc_deeds.specs.declared.closes.Close.TheVariants as close
 use Rattle.mc_core.specs.declared.working.Task.{Task}
-use Rattle.mc_core.proofs.Growing.{adds_as, adds_record, adds_then, due_same, pushes_same}
-use Rattle.mc_core.proofs.Steps.{as_told}
+use Rattle.mc_state.proofs.Growing.{adds_as, adds_record, adds_then, due_same, pushes_same}
+use Rattle.mc_state.proofs.Steps.{as_told}
 
 pub none_waits : (qs : List Request) → slice_get qs 0 ≡ None → qs ≡ []
 none_waits [] e = refl

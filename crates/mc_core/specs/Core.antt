@@ -1,5 +1,5 @@
 -- A core as its callers see it.
-use Rattle.std.specs.Prelude.{◌≡◌, ℕ, true, List, [], reverse, Option, Some, None, IsSomeAnd}
+use Rattle.std.specs.Prelude.{◌≡◌, ℕ, List, [], reverse, Option, None}
 use Rattle.mc_props.specs.First.{first_facts}
 use Rattle.mc_props.specs.declared.entries.PropEntry.{PropEntry}
 use Rattle.mc_props.specs.declared.facts.Facts.{Facts}

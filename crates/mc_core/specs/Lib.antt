@@ -1,13 +1,6 @@
 pub mod Errors
-pub mod Stands
 pub mod Calls
-pub mod Clients
-pub mod Growth
-pub mod Flags
-pub mod Pushing
-pub mod Replying
-pub mod Changes
+pub mod Learning
 pub mod Working
-pub mod Follow
 pub mod Doing
 pub mod Core

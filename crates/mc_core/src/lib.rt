@@ -37,24 +37,13 @@
 //! its caller's number (`grows`). All memory that a call needs is there before it changes anything.
 #![tactic(auto)]
 
-mod answering;
 mod calls;
-mod clients;
 mod core_error;
-mod deeds;
 mod doing;
-mod flags;
-mod follow;
+mod following;
 mod learning;
-mod lives;
-mod making;
-mod outcomes;
 mod player;
-mod pushing;
-mod replying;
 mod requests;
-mod state;
-mod taking;
 mod working;
 
 pub use core_error::CoreError;

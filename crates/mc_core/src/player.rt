@@ -5,16 +5,20 @@ ghost use Rattle.mc_player.specs.declared.record.CoreRecord.TheVariants.{Created
 ghost use Rattle.mc_core.specs.Calls.{Answers};
 ghost use Rattle.mc_core.specs.Core.{IsCore, history, new_core, table_in};
 ghost use Rattle.mc_core.specs.Errors.{Refuses, full_or, refusal_of_call, refusal_of_client};
-ghost use Rattle.mc_core.specs.Growth.{Adds, Grew, is_effect, is_news};
+ghost use Rattle.mc_state.specs.Growth.{Adds, Grew, is_effect, is_news};
 ghost use Rattle.mc_core.specs.Working.{Works, out_by};
 
+use crate::calls::{answer, create, destroy};
 use crate::core_error::CoreError;
-use crate::state::State;
+use crate::doing::done;
+use crate::learning::learn;
+use crate::working::work;
 use mc_dispatch::{Call, ClientNo};
 use mc_packet::CacheView;
 use mc_player::{Answer, CoreJournal, Order, Outcome};
 use mc_props::meanings::Meaning;
 use mc_props::{Facts, PropTable, Reads};
+use mc_state::State;
 use mc_value::Text;
 use std::alloc::Global;
 use std::marker::Model;
@@ -37,7 +41,7 @@ impl<F: Reads<M>, M: Meaning> Model for Core<F, M> {
     ghost use Rattle.std.specs.Coded.{codes};
     ghost use Rattle.mc_value.specs.contracts.value.Value as value;
     ghost use Rattle.mc_core.specs.Core.{CoreView};
-    ghost use Rattle.mc_core.specs.Stands.{IsQuiet};
+    ghost use Rattle.mc_state.specs.Stands.{IsQuiet};
 
     ghost Value = { CoreView };
 
@@ -67,14 +71,14 @@ impl<F: Reads<M>, M: Meaning> Core<F, M> {
     pub fn facts(&self) -> &Facts
         ensures { result.now ≡ self.now.facts }
     {
-        &self.state.facts
+        self.state.facts()
     }
 
     /// The order that is out: its outcome is still to be told.
     pub fn order(&self) -> Option<Order>
         ensures { result ≡ self.now.out }
     {
-        self.state.out
+        self.state.out()
     }
 
     /// All that happened, the oldest record first.
@@ -83,7 +87,7 @@ impl<F: Reads<M>, M: Meaning> Core<F, M> {
         ensures core { IsCore M.value self.now }
     {
         self.state.stands();
-        &self.state.journal
+        self.state.journal()
     }
 
     /// The journal, which outlives the core.
@@ -96,7 +100,7 @@ impl<F: Reads<M>, M: Meaning> Core<F, M> {
     fn is_full(&self) -> bool
         ensures { result ≡ nat_le 16000000 (length (history self.now)) }
     {
-        self.state.journal.len() >= MAX_RECORDS
+        self.state.journal().len() >= MAX_RECORDS
     }
 
     /// A client comes, with room for `size` events and places for replies in its ring. Refused in
@@ -115,7 +119,7 @@ impl<F: Reads<M>, M: Meaning> Core<F, M> {
         if self.is_full() {
             return Err(CoreError::JournalFull);
         }
-        self.state.create(by, name, size)
+        create(&mut self.state, by, name, size)
     }
 
     /// A client goes, and its queued requests with it. Refused in this order: `JournalFull`,
@@ -135,7 +139,7 @@ impl<F: Reads<M>, M: Meaning> Core<F, M> {
         if !self.state.knows(c) {
             return Err(CoreError::UnknownClient);
         }
-        Ok(self.state.destroy(by, c)?)
+        Ok(destroy(&mut self.state, by, c)?)
     }
 
     /// A client's call. `Command`, `Get` and `Set` are requests: `Refused(-4)` comes where a
@@ -158,7 +162,7 @@ impl<F: Reads<M>, M: Meaning> Core<F, M> {
         if !self.state.knows(c) {
             return Err(CoreError::UnknownClient);
         }
-        Ok(self.state.answer(by, c, call)?)
+        Ok(answer(&mut self.state, by, c, call)?)
     }
 
     /// Takes in what the demuxer's cache tells of itself: observers of it may have news, and a
@@ -177,7 +181,7 @@ impl<F: Reads<M>, M: Meaning> Core<F, M> {
         if self.is_full() {
             return Err(CoreError::JournalFull);
         }
-        Ok(self.state.learn(by, view)?)
+        Ok(learn(&mut self.state, by, view)?)
     }
 
     /// What the demuxer is to do next. The first order is `Load`. Then the oldest request is taken:
@@ -197,7 +201,7 @@ impl<F: Reads<M>, M: Meaning> Core<F, M> {
         if self.is_full() {
             return Err(CoreError::JournalFull);
         }
-        Ok(self.state.work(by)?)
+        Ok(work(&mut self.state, by)?)
     }
 
     /// Takes in the outcome of the order that is out: its effects, and the reply to the request
@@ -216,6 +220,6 @@ impl<F: Reads<M>, M: Meaning> Core<F, M> {
         if self.is_full() {
             return Err(CoreError::JournalFull);
         }
-        Ok(self.state.done(by, outcome)?)
+        Ok(done(&mut self.state, by, outcome)?)
     }
 }

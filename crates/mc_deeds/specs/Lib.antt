@@ -1,0 +1,6 @@
+pub mod Changes
+pub mod Clients
+pub mod Flags
+pub mod Signals
+pub mod Follow
+pub mod Closes

@@ -1,0 +1,9 @@
+pub mod Steps
+pub mod Answered
+pub mod Coming
+pub mod Asking
+pub mod Growing
+pub mod Telling
+pub mod Replied
+pub mod Changed
+pub mod Taken

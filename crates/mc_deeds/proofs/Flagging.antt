@@ -39,6 +39,29 @@ flagged_none value entries f mask cs all = record {
     with_left None P Q h = tt
     with_left (Some k) P Q h = inl h
 
+-- facts that agree on all fields are the same
+same_facts : (f g : Facts) → AgreeOutside 0 f g → f ≡ g
+same_facts f g agree =
+    ap (λ x. record f { pause = x }) (agree.pause refl)
+    ∙ ap (λ x. record f { pause = g.pause; mute = x }) (agree.mute refl)
+    ∙ ap (λ x. record f { pause = g.pause; mute = g.mute; path = x }) (agree.path refl)
+    ∙ ap (λ x. record f { pause = g.pause; mute = g.mute; path = g.path; tracks = x }) (agree.tracks refl)
+    ∙ ap (λ x. record g { set = f.set; cache = f.cache; loaded = x }) (agree.loaded refl)
+    ∙ ap (λ x. record g { cache = f.cache; set = x }) (agree.set refl)
+    ∙ ap (λ x. record g { cache = x }) (agree.cache refl)
+
+-- with no field in the mask, all stay fresh as they stand
+pub flagged_same : (value : ℕ → Facts → Reading) (entries : List PropEntry) (f : Facts) (mask : ℕ) (order : List ClientNo) (cs : Slab ClientState)
+    → mask ≡ 0 → AllFresh value entries f cs → AreFlagged value entries f mask order cs cs
+flagged_same value entries f mask order cs none all =
+    let so = flagged_none value entries f mask cs all in
+    record {
+      lives = so.lives;
+      either = so.either;
+      fresh = λ g agree c e. subst (λ (y : Facts). IfSome (get cs c) (λ k. Fresh value entries y k.watches))
+          (same_facts f g (subst (λ (m : ℕ). AgreeOutside m f g) none agree)) (all c);
+    }
+
 -- what one flag does
 pub record FlagsHere (value : ℕ → Facts → Reading) (entries : List PropEntry) (mask : ℕ) (cs cs' : Slab ClientState) (at : ℕ) : Type 0 where
   pub here : (k : ClientState) → get cs at ≡ Some k → IsFlaggedAt value entries mask k (get cs' at)

@@ -30,7 +30,7 @@ fn flag_at<F: Reads<M>, M: Meaning>(
 }
 
 /// The clients of these numbers, each of which is fresh for the facts, are then fresh for all facts
-/// that differ in the mask's fields alone.
+/// that differ in the mask's fields alone. No client is looked at where the mask has none.
 pub fn flag_all<F: Reads<M>, M: Meaning>(
     clients: &mut Slab<Client>,
     order: &[ClientNo],
@@ -42,6 +42,9 @@ pub fn flag_all<F: Reads<M>, M: Meaning>(
     ensures flagged { AreFlagged M.value table.now facts.now mask order.now
         clients.old clients.new }
 {
+    if mask == 0 {
+        return;
+    }
     for c in order {
         flag_at(clients, table, c.0 as usize, mask);
     }

@@ -6,6 +6,7 @@ ghost use Rattle.mc_state.specs.Growth.{Adds, is_news, is_push};
 ghost use Rattle.mc_state.specs.Pushing.{Within, coming};
 ghost use Rattle.mc_state.specs.Stands.{table_of};
 
+use crate::pushing::{push_all, send_all};
 use mc_deeds::{Follow, Signal};
 use mc_props::fields::{FILE, SELECTION};
 use mc_props::meanings::Meaning;
@@ -23,8 +24,8 @@ fn push_end<F: Reads<M>, M: Meaning>(state: &mut State<F, M>, by: u32)
     ensures within { Within (length state.old.order + length state.old.order)
         state.old state.new }
 {
-    state.push_all(by, Signal::EndFile);
-    state.push_all(by, Signal::Shutdown);
+    push_all(state, by, Signal::EndFile);
+    push_all(state, by, Signal::Shutdown);
 }
 
 /// Tells each client that a file was opened.
@@ -39,9 +40,9 @@ fn push_load<F: Reads<M>, M: Meaning>(state: &mut State<F, M>, by: u32, facts: F
     ensures within { Within (length state.old.order + length state.old.order + 1)
         state.old state.new }
 {
-    state.push_all(by, Signal::StartFile);
+    push_all(state, by, Signal::StartFile);
     state.wrote(by, FILE + SELECTION, facts);
-    state.push_all(by, Signal::FileLoaded);
+    push_all(state, by, Signal::FileLoaded);
 }
 
 /// What follows is written and pushed.
@@ -59,12 +60,12 @@ pub(crate) fn follow<F: Reads<M>, M: Meaning>(state: &mut State<F, M>, by: u32, 
     match follow {
         Follow::Nothing => {}
         Follow::Writes { mask, facts } => state.wrote(by, mask, facts),
-        Follow::Sends { words, events } => state.send_all(by, &words, events),
+        Follow::Sends { words, events } => send_all(state, by, &words, events),
         Follow::SendsTo { client, event } => {
             state.push_to(by, client, event.event, event.told);
         }
         Follow::Quits => push_end(state, by),
         Follow::Loads { facts } => push_load(state, by, facts),
-        Follow::Seeks => state.push_all(by, Signal::Seek),
+        Follow::Seeks => push_all(state, by, Signal::Seek),
     }
 }

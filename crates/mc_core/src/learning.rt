@@ -8,6 +8,7 @@ ghost use Rattle.mc_state.specs.Stands.{IsQuiet};
 ghost use Rattle.mc_state.specs.Steps.{IsAsBefore};
 ghost use Rattle.mc_core.specs.Learning.{MayRestart};
 
+use crate::pushing::push_all;
 use mc_deeds::Signal;
 use mc_packet::CacheView;
 use mc_props::fields::CACHE;
@@ -32,7 +33,7 @@ fn restarted<F: Reads<M>, M: Meaning>(state: &mut State<F, M>, by: u32, due: boo
     ensures within { Within (length state.old.order) state.old state.new }
 {
     if due {
-        state.push_all(by, Signal::Restart);
+        push_all(state, by, Signal::Restart);
     }
 }
 

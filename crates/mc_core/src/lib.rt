@@ -39,10 +39,12 @@
 
 mod calls;
 mod core_error;
+mod deciding;
 mod doing;
 mod following;
 mod learning;
 mod player;
+mod pushing;
 mod requests;
 mod working;
 

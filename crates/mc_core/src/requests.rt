@@ -1,16 +1,17 @@
 //! Requests: they are refused, or wait for their replies, or are aborted.
-ghost use Rattle.std.specs.Prelude.{◌≡◌, ◌<◌, ◌∷◌, true, None as Nothing, IfOk, OnErr, length, reverse};
+ghost use Rattle.std.specs.Prelude.{◌≡◌, ◌<◌, ◌+◌, ◌∷◌, drop, true, None as Nothing, IfOk, OnErr, length, reverse};
 ghost use Rattle.slab.specs.Slab.{ContainsKey};
 ghost use Rattle.mc_dispatch.specs.declared.call.Call.TheVariants as call;
 ghost use Rattle.mc_player.specs.Rules.{is_request};
 ghost use Rattle.mc_player.specs.declared.record.Answer.TheVariants as answer;
 ghost use Rattle.mc_player.specs.declared.record.CoreRecord.TheVariants.{Called};
 ghost use Rattle.mc_state.specs.Growth.{Adds, is_reply};
+ghost use Rattle.mc_state.specs.Replying.{IsDrained};
 ghost use Rattle.mc_state.specs.Stands.{IsQuiet};
 ghost use Rattle.mc_state.specs.Steps.{IsAsBefore, Wrote, ticket_for};
 
 use mc_deeds::is_bad;
-use mc_dispatch::{Call, ClientNo};
+use mc_dispatch::{Call, ClientNo, Request};
 use mc_player::Answer;
 use mc_props::Reads;
 use mc_props::meanings::Meaning;
@@ -47,6 +48,27 @@ pub(crate) fn request<F: Reads<M>, M: Meaning>(
     Ok(Answer::Ok)
 }
 
+fn request_at(requests: &[Request], i: usize) -> &Request
+    requires { i < length requests.now }
+    ensures { drop i requests.now ≡ result.now ∷ drop (i + 1) requests.now }
+{
+    &requests[i]
+}
+
+/// Replies to all requests that are due, the oldest first.
+fn reply_all<F: Reads<M>, M: Meaning>(state: &mut State<F, M>, by: u32, requests: &[Request])
+    requires drained { IsDrained M.value requests.now 0 state.old }
+    ensures still { (state.new.out ≡ state.old.out) × (state.new.facts ≡ state.old.facts) }
+    ensures quiet { IsQuiet M.value state.new }
+    ensures entries { state.new.entries ≡ state.old.entries }
+    ensures adds { Adds is_reply by
+        (reverse state.old.journal) (reverse state.new.journal) }
+{
+    for i in 0..requests.len() {
+        state.reply_due(by, request_at(requests, i));
+    }
+}
+
 /// Aborts a client's queued requests with the number: each gets its reply at once. It answers
 /// how many there were.
 pub(crate) fn abort<F: Reads<M>, M: Meaning>(
@@ -68,6 +90,6 @@ pub(crate) fn abort<F: Reads<M>, M: Meaning>(
     state.make_room_for_replies()?;
     let removed = state.aborted(by, c, id)?;
     let count = removed.len() as u32;
-    state.reply_all(by, removed.as_slice());
+    reply_all(state, by, removed.as_slice());
     Ok(count)
 }

@@ -4,6 +4,7 @@ ghost use Rattle.mc_state.specs.Stands.{IsQuiet, table_of};
 ghost use Rattle.mc_state.specs.Steps.{IsAsBefore};
 ghost use Rattle.mc_core.specs.Working.{IsTask, Works, out_by};
 
+use crate::deciding::deed_of;
 use crate::following::follow;
 use mc_deeds::{Close, close_of};
 use mc_dispatch::ClientNo;
@@ -32,7 +33,7 @@ fn next_task<F: Reads<M>, M: Meaning>(state: &State<F, M>) -> Result<Option<Task
     let Some(request) = state.first() else {
         return Ok(None);
     };
-    let deed = state.deed_of(&request.call)?;
+    let deed = deed_of(state, &request.call)?;
     let close = close_of(
         state.alloc(),
         state.facts(),

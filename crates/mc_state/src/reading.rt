@@ -1,5 +1,5 @@
 //! What a core holds, read.
-ghost use Rattle.std.specs.Prelude.{◌≡◌, true, is_some, length, reverse, slice_get};
+ghost use Rattle.std.specs.Prelude.{◌≡◌, ◌<◌, ◌+◌, ◌∷◌, true, drop, is_some, length, reverse, slice_get};
 ghost use Rattle.std.specs.Bool.{MatchBool};
 ghost use Rattle.std.specs.Option.{option_copied};
 ghost use Rattle.slab.specs.Slab.{ContainsKey};
@@ -12,7 +12,7 @@ use mc_deeds::full_at;
 use mc_dispatch::{ClientNo, Request};
 use mc_player::{CoreJournal, Deed, Order};
 use mc_props::meanings::Meaning;
-use mc_props::{Facts, Reads};
+use mc_props::{Facts, PropTable, Reads};
 use std::alloc::Global;
 
 impl<F: Reads<M>, M: Meaning> State<F, M> {
@@ -106,5 +106,20 @@ impl<F: Reads<M>, M: Meaning> State<F, M> {
         ensures { MatchBool result (IsFullAt self.now.clients c.0) (IsFreeAt self.now.clients c.0) }
     {
         full_at(&self.clients, c.0 as usize)
+    }
+
+    /// The client at a place in the order of creation.
+    pub fn client_at(&self, i: usize) -> ClientNo
+        requires { i < length self.now.order }
+        ensures { drop i self.now.order ≡ result ∷ drop (i + 1) self.now.order }
+    {
+        self.order[i]
+    }
+
+    /// The table of its properties.
+    pub fn table(&self) -> &PropTable<F, M>
+        ensures { result.now ≡ self.now.entries }
+    {
+        &self.table
     }
 }

@@ -23,16 +23,9 @@ use mc_props::meanings::Meaning;
 use mc_ring::Event;
 use mc_value::{NoMemory, Value};
 
-fn request_at(requests: &[Request], i: usize) -> &Request
-    requires { i < length requests.now }
-    ensures { drop i requests.now ≡ result.now ∷ drop (i + 1) requests.now }
-{
-    &requests[i]
-}
-
 impl<F: Reads<M>, M: Meaning> State<F, M> {
     /// Replies to the first request that is due since it was aborted.
-    fn reply_due(&mut self, by: u32, request: &Request)
+    pub fn reply_due(&mut self, by: u32, request: &Request)
         requires due { slice_get (due (reverse self.old.journal)) 0 ≡ Some request.now }
         requires room { 0 < self.old.spare }
         ensures still { (self.new.out ≡ self.old.out) × (self.new.facts ≡ self.old.facts) }
@@ -48,20 +41,6 @@ impl<F: Reads<M>, M: Meaning> State<F, M> {
             ticket: request.ticket,
             event: reply_of(&request.call, -20, Value::None),
         });
-    }
-
-    /// Replies to all requests that are due, the oldest first.
-    pub fn reply_all(&mut self, by: u32, requests: &[Request])
-        requires drained { IsDrained M.value requests.now 0 self.old }
-        ensures still { (self.new.out ≡ self.old.out) × (self.new.facts ≡ self.old.facts) }
-        ensures quiet { IsQuiet M.value self.new }
-        ensures entries { self.new.entries ≡ self.old.entries }
-        ensures adds { Adds is_reply_record by
-            (reverse self.old.journal) (reverse self.new.journal) }
-    {
-        for i in 0..requests.len() {
-            self.reply_due(by, request_at(requests, i));
-        }
     }
 
     /// A client's queued requests with the number are aborted: their replies are due then.

@@ -16,7 +16,7 @@ returns-in-Sends-clause-none g c =
     (c.requires.due ∙ ap (λ (x : Follow). plan_follow (table_of g.M.Meaning.value c.args.state.now) (reverse c.args.state.now.journal) c.args.state.now.order x) c.in-Sends.is))
 
 pub returns-in-Sends-clause-adds : goal.returns-in-Sends-clause-adds
-returns-in-Sends-clause-adds g c = news_of c.args.by c.args.state.now c.send_all.new.self c.send_all.ensures.adds
+returns-in-Sends-clause-adds g c = news_of c.args.by c.args.state.now c.send_all.new.state c.send_all.ensures.adds
 
 pub returns-in-SendsTo-clause-none : goal.returns-in-SendsTo-clause-none
 returns-in-SendsTo-clause-none g c =
@@ -35,4 +35,4 @@ returns-in-Seeks-clause-none g c =
     (c.requires.due ∙ ap (λ (x : Follow). plan_follow (table_of g.M.Meaning.value c.args.state.now) (reverse c.args.state.now.journal) c.args.state.now.order x) c.in-Seeks.is))
 
 pub returns-in-Seeks-clause-adds : goal.returns-in-Seeks-clause-adds
-returns-in-Seeks-clause-adds g c = news_of c.args.by c.args.state.now c.push_all.new.self c.push_all.ensures.adds
+returns-in-Seeks-clause-adds g c = news_of c.args.by c.args.state.now c.push_all.new.state c.push_all.ensures.adds

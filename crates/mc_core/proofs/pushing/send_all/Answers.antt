@@ -5,14 +5,14 @@ use Rattle.mc_deeds.specs.Follow.{IsTwice}
 use Rattle.mc_state.specs.Growth.{is_push}
 use Rattle.mc_state.proofs.Growing.{adds_then}
 use Rattle.mc_state.proofs.Telling.{same_order, within_more}
-use Rattle.mc_state.proofs.state.State.send_all.Goals as goal
+use Rattle.mc_core.proofs.pushing.send_all.Goals as goal
 
 pub loop-twice-preserved : goal.loop-twice-preserved
 loop-twice-preserved g c =
     let e : c.loop-twice.twice-iterator.rest.items ≡ c.in-Some.twice ∷ c.next.new.self.rest.items = search rules in
     let long : length c.loop-twice.twice-iterator.rest.items ≡ length c.next.new.self.rest.items + 1 = rw e (omega arith) in
-    let order : length c.send_next.new.self.order ≡ length c.loop-twice.self.order =
-    ap (λ (xs : List _). length xs) (same_order 1 c.loop-twice.self c.send_next.new.self c.send_next.ensures.within) in
+    let order : length c.send_next.new.state.order ≡ length c.loop-twice.state.order =
+    ap (λ (xs : List _). length xs) (same_order 1 c.loop-twice.state c.send_next.new.state c.send_next.ensures.within) in
     let before = c.loop-twice.invariant.left in
     record {
       left = omega (arith, long, order, before);

@@ -1,7 +1,7 @@
 use Rattle.mc_state.specs.Growth.{is_push}
 use Rattle.mc_state.proofs.Growing.{adds_then}
 use Rattle.mc_state.proofs.Telling.{within_more}
-use Rattle.mc_state.proofs.state.State.push_all.Goals as goal
+use Rattle.mc_core.proofs.pushing.push_all.Goals as goal
 
 pub loop-i-preserved : goal.loop-i-preserved
 loop-i-preserved g c = record {

@@ -1,5 +1,5 @@
-//! Makes the calls of `mc_core` that its rows name, on one core over the standard properties of a
-//! player, and prints what each answered. The rows stand in `stdin`, and what they must answer in
+//! Makes the calls of `mc_core` that its rows name, on one core after another over the standard
+//! properties of a player, and prints what each answered. The rows stand in `stdin`, and what they must answer in
 //! `stdout`.
 #![tactic(auto)]
 
@@ -27,9 +27,16 @@ fn main(rt: HostRuntime) -> io::Result<()> {
     )
 }
 
-fn play_all<F: Reads<Standard>>(rt: &HostRuntime, alloc: Global, reader: F) -> io::Result<()>
+// How many cores the rows may use, one after another.
+const CORES: u32 = 20;
+
+fn play_all<F: Reads<Standard> + Copy>(rt: &HostRuntime, alloc: Global, reader: F) -> io::Result<()>
     requires { (place : ℕ) → place < 14 → F.answers reader place }
 {
-    let table = PropTable::new(alloc, standard_entries(alloc)?, reader);
-    play(rt, &mut CoreTable::new(Core::new(alloc, table)))
+    let mut cores = Vec::new(alloc);
+    for _ in 0..CORES {
+        let table = PropTable::new(alloc, standard_entries(alloc)?, reader);
+        cores.push(Core::new(alloc, table))?;
+    }
+    play(rt, &mut CoreTable::new(cores))
 }

@@ -1,5 +1,5 @@
 use mc_core::{Core, CoreError};
-use mc_packet::{CacheView, Choice, Kind, RangeViews, Why};
+use mc_packet::{CacheView, Choice, Ending, Kind, RangeViews, Why};
 use mc_player::{Order, Outcome};
 use mc_props::Reads;
 use mc_props::meanings::Standard;
@@ -44,12 +44,26 @@ pub fn view_at(alloc: Global, time: Option<i64>, playing: bool) -> CacheView {
     }
 }
 
+/// The view of one that has all to the film's end, which was read.
+pub fn end_at(alloc: Global, time: i64) -> CacheView {
+    CacheView {
+        ranges: RangeViews::new(alloc),
+        forward: 0,
+        back: 0,
+        bof: true,
+        ending: Some(Ending::Clean),
+        time: Some(time),
+        playing: true,
+        ended: true,
+    }
+}
+
 /// A file of one track is opened, of which nothing is selected.
 pub fn load<F: Reads<Standard>>(
     alloc: Global,
     core: &mut Core<F, Standard>,
 ) -> Result<Result<(), CoreError>, RowError> {
-    let path = Text::new(alloc, "night.mkv")?;
+    let path = Text::new(alloc, "films/night.mkv")?;
     let tracks = tracks(alloc)?;
     match core.order() {
         Some(Order::Load) => {

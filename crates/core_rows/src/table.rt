@@ -1,8 +1,9 @@
 use crate::asks::{call_in, long_in};
-use crate::outcomes::{BY, load, refuse, seek, select, view_at};
+use crate::outcomes::{BY, end_at, load, refuse, seek, select, view_at};
 use crate::shown::{push_answer, push_error, push_kinds, push_order};
 use mc_core::{Core, CoreError};
-use mc_dispatch::ClientNo;
+use mc_dispatch::{Call, ClientNo};
+use mc_player::Answer;
 use mc_props::Reads;
 use mc_props::meanings::Standard;
 use mc_value::Text;
@@ -10,18 +11,33 @@ use rows::{Json, RowError, Table, flag_in, named, none, number_in, one, text_in,
 use std::alloc::Global;
 use std::fmt::Write;
 
-/// The calls of one core.
+/// The calls of one core after another.
 #[derive(Drop)]
 pub struct CoreTable<F: Reads<Standard>> {
-    core: Core<F, Standard>,
+    // the core whose turn it is is the last; one that had its turn is gone
+    cores: Vec<Core<F, Standard>>,
     // how many records the last row that printed some had seen
     seen: usize,
 }
 
 impl<F: Reads<Standard>> CoreTable<F> {
-    /// The calls of this core.
-    pub fn new(core: Core<F, Standard>) -> CoreTable<F> {
-        CoreTable { core, seen: 0 }
+    /// The calls of these cores, the last first.
+    pub fn new(cores: Vec<Core<F, Standard>>) -> CoreTable<F> {
+        CoreTable { cores, seen: 0 }
+    }
+
+    fn next(&mut self) {
+        let _gone = self.cores.pop();
+        self.seen = 0;
+    }
+
+    fn push_journal(&mut self, out: &mut String) -> Result<(), RowError> {
+        let Some(core) = self.cores.last() else {
+            return Err(RowError::BadRow);
+        };
+        push_kinds(out, core.journal(), self.seen)?;
+        self.seen = core.journal().len();
+        Ok(())
     }
 }
 
@@ -30,26 +46,32 @@ enum Word {
     Create,
     Destroy,
     Call,
+    Read,
     Learn,
+    LearnEnd,
     Work,
     Loaded,
     Sought,
     Refused,
     Selected,
     Journal,
+    Next,
 }
 
-const WORDS: [(&str, Word); 10] = [
+const WORDS: [(&str, Word); 13] = [
     ("create", Word::Create),
     ("destroy", Word::Destroy),
     ("call", Word::Call),
+    ("read", Word::Read),
     ("learn", Word::Learn),
+    ("learn end", Word::LearnEnd),
     ("work", Word::Work),
     ("loaded", Word::Loaded),
     ("sought", Word::Sought),
     ("refused", Word::Refused),
     ("selected", Word::Selected),
     ("journal", Word::Journal),
+    ("next", Word::Next),
 ];
 
 impl<F: Reads<Standard>> Table for CoreTable<F> {
@@ -60,21 +82,43 @@ impl<F: Reads<Standard>> Table for CoreTable<F> {
         arguments: &[Json<'_>],
         out: &mut String,
     ) -> Result<(), RowError> {
-        match named(&WORDS, name)? {
-            Word::Create => create(alloc, &mut self.core, arguments, out),
-            Word::Destroy => destroy(&mut self.core, arguments, out),
-            Word::Call => call(alloc, &mut self.core, arguments, out),
-            Word::Learn => learn(alloc, &mut self.core, arguments, out),
+        let word = named(&WORDS, name)?;
+        match word {
+            Word::Next => {
+                none(arguments)?;
+                self.next();
+                return Ok(());
+            }
             Word::Journal => {
                 none(arguments)?;
-                push_kinds(out, self.core.journal(), self.seen)?;
-                self.seen = self.core.journal().len();
-                Ok(())
+                return self.push_journal(out);
             }
-            word => {
-                none(arguments)?;
-                answer_alone(alloc, &mut self.core, word, out)
-            }
+            _ => {}
+        }
+        match self.cores.last_mut() {
+            Some(core) => answer(alloc, core, word, arguments, out),
+            None => Err(RowError::BadRow),
+        }
+    }
+}
+
+fn answer<F: Reads<Standard>>(
+    alloc: Global,
+    core: &mut Core<F, Standard>,
+    word: Word,
+    arguments: &[Json<'_>],
+    out: &mut String,
+) -> Result<(), RowError> {
+    match word {
+        Word::Create => create(alloc, core, arguments, out),
+        Word::Destroy => destroy(core, arguments, out),
+        Word::Call => call(alloc, core, arguments, out),
+        Word::Read => read(alloc, core, arguments, out),
+        Word::Learn => learn(alloc, core, arguments, out),
+        Word::LearnEnd => learn_end(alloc, core, arguments, out),
+        word => {
+            none(arguments)?;
+            answer_alone(alloc, core, word, out)
         }
     }
 }
@@ -145,6 +189,45 @@ fn call<F: Reads<Standard>>(
         Ok(answer) => Ok(push_answer(alloc, out, &answer)?),
         Err(error) => push_error(out, error),
     }
+}
+
+// A property is asked for and the request worked; it prints the client's next event. Where a row finds
+// no memory part of that may have happened, so that it stands behind no line `# patient`.
+fn read<F: Reads<Standard>>(
+    alloc: Global,
+    core: &mut Core<F, Standard>,
+    arguments: &[Json<'_>],
+    out: &mut String,
+) -> Result<(), RowError> {
+    let [client, parts @ ..] = arguments else {
+        return Err(RowError::BadRow);
+    };
+    let client = client_in(client)?;
+    let asked = call_in(alloc, "get", parts)?;
+    if core.order().is_some() {
+        return Err(RowError::BadRow);
+    }
+    let answer = match core.call(BY, client, asked) {
+        Ok(Answer::Ok) => core
+            .work(BY)
+            .and_then(|_| core.call(BY, client, Call::Poll)),
+        other => other,
+    };
+    match answer {
+        Ok(answer) => Ok(push_answer(alloc, out, &answer)?),
+        Err(error) => push_error(out, error),
+    }
+}
+
+// The time of a view whose film has ended, with nothing more to read.
+fn learn_end<F: Reads<Standard>>(
+    alloc: Global,
+    core: &mut Core<F, Standard>,
+    arguments: &[Json<'_>],
+    out: &mut String,
+) -> Result<(), RowError> {
+    let time = number_in(one(arguments)?)?;
+    push_done(out, core.learn(BY, end_at(alloc, time)))
 }
 
 // The time of the view in nanoseconds, below 0 for none, and whether it plays.

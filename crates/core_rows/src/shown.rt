@@ -14,9 +14,17 @@ pub fn push_error(out: &mut String, error: CoreError) -> Result<(), RowError> {
     }
 }
 
+// A value as JSON. Flags, and no value, take no memory for it.
 fn push_value(alloc: Global, out: &mut String, value: &Value) -> Result<(), AllocError> {
-    let value = json(alloc, value)?;
-    out.push_str(value.as_str())
+    match value {
+        Value::None => out.push_str("null"),
+        Value::Flag(true) => out.push_str("true"),
+        Value::Flag(false) => out.push_str("false"),
+        value => {
+            let text = json(alloc, value)?;
+            out.push_str(text.as_str())
+        }
+    }
 }
 
 // The words, a `|` behind each.

@@ -1,2 +1,6 @@
-//! What a demuxer's journal and a player's journal say of each other.
+//! What a demuxer's journal and a player's journal say of each other: laws on lists.
 #![tactic(auto)]
+
+mod law;
+
+pub use law::{counted_turns, every_run, every_turn, tied_worlds};

@@ -5,3 +5,4 @@ pub mod Stepping
 pub mod Running
 pub mod Turning
 pub mod Counting
+pub mod Knowing

@@ -1,9 +1,12 @@
 //! Whatever a world of a demuxer and a player does, its two journals tell one story: laws on lists.
-ghost use Rattle.std.specs.Prelude.{◌≡◌, ℕ, ◌+◌, List, true};
+ghost use Rattle.std.specs.Prelude.{◌≡◌, ℕ, ◌+◌, List, None, Some, true, ℤ};
 ghost use Rattle.std.specs.List.{AllByRecursion};
+ghost use Rattle.mc_packet.specs.Choices.{is_known};
 ghost use Rattle.mc_packet.specs.declared.choice.Choice.{Choice};
+ghost use Rattle.mc_tracks.specs.Selection.{choice_of, knows, numbers_of, refusal_of};
 ghost use Rattle.mc_journal.specs.Films.{Film};
 ghost use Rattle.mc_journal.specs.Used.{is_still};
+ghost use Rattle.mc_player.specs.declared.record.Order.TheVariants as order;
 ghost use Rattle.mc_player.specs.Lives.{Table};
 ghost use Rattle.mc_player.specs.Orders.{Opening};
 ghost use Rattle.mc_player.specs.Rules.{IsAllowed};
@@ -65,5 +68,21 @@ pub fn counted_turns()
     ensures {
         (film : Film) (w : Opening) (t : Table) (by n : ℕ) (s e : Both)
         → CoreTurns film w t by n s e → views_learned e.hc ≡ views_learned s.hc + n
+    }
+{}
+
+/// The tracks of a selection that is out are known ones of the file that was opened, and the demuxer
+/// does not refuse to select them by their numbers, and selects just these.
+pub fn known_orders()
+    ensures known {
+        (n : ℕ) (film : Film) (w : Opening) (t : Table) (s : Both) (set : Choice) (at : ℤ)
+        → IsAllowed t s.hc → IsTied n film w s → s.order ≡ Some (order.Select set at)
+        → is_known (knows w.tracks) set ≡ true
+    }
+    ensures selected {
+        (n : ℕ) (film : Film) (w : Opening) (t : Table) (s : Both) (set : Choice) (at : ℤ)
+        → IsAllowed t s.hc → IsTied n film w s → s.order ≡ Some (order.Select set at)
+        → (refusal_of w.tracks (numbers_of set) ≡ None)
+        × (choice_of w.tracks (numbers_of set) ≡ set)
     }
 {}

@@ -3,4 +3,4 @@
 
 mod law;
 
-pub use law::{counted_turns, every_run, every_turn, tied_worlds};
+pub use law::{counted_turns, every_run, every_turn, known_orders, tied_worlds};

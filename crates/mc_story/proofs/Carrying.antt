@@ -1,31 +1,28 @@
 -- What a carried order adds is its item; what a seek or a selection of another caller adds is none.
-use Rattle.std.proofs.Common.{◌≡◌, ◌⊎◌, inl, inr, ℕ, Bool, true, false, List, [], ◌∷◌, ◌++◌, Option, Some, None, ℤ, refl, sym, ap, subst, ◌∙◌}
+use Rattle.std.proofs.Common.{◌≡◌, inl, inr, ℕ, Bool, true, false, List, ◌∷◌, Option, Some, None, ℤ, refl, sym, subst}
 use Rattle.std.specs.Prelude.{not, ◌&&◌, ◌==◌}
-use Rattle.std.specs.List.{AllByRecursion}
 use Rattle.std.specs.Ordering.{int_eq}
-use Rattle.std.proofs.lemmas.Bool.{and_from, and_left, and_right, true≢false, eq-eqb}
+use Rattle.std.proofs.lemmas.Bool.{and_from, and_left, and_right, eq-eqb}
 use Rattle.std.proofs.lemmas.Bool.Decides.{Decides-int_eq}
 use Rattle.mc_packet.specs.declared.choice.Choice.{Choice}
 use Rattle.mc_packet.specs.declared.choice.Dir.{Dir}
 use Rattle.mc_packet.specs.declared.choice.Dir.TheVariants.{Back, Forward}
-use Rattle.mc_packet.specs.declared.choice.Why.{Why}
-use Rattle.mc_packet.specs.declared.choice.Why.TheVariants.{NoTrack, UnknownTrack, Unsupported, TwoOfKind}
+use Rattle.mc_packet.specs.declared.choice.Why.TheVariants.{NoTrack}
 use Rattle.mc_journal.specs.declared.record.Sought.{Sought as How}
 use Rattle.mc_journal.specs.declared.record.Sought.TheVariants.{Sent}
 use Rattle.mc_journal.specs.declared.record.DemuxRecord.{DemuxRecord}
 use Rattle.mc_journal.specs.declared.record.DemuxRecord.TheVariants.{Sought, Switched, Refused}
 use Rattle.mc_journal.specs.Films.{Film}
-use Rattle.mc_journal.specs.Readings.{selected, pending, follows, is_asked}
+use Rattle.mc_journal.specs.Readings.{selected, pending, follows}
 use Rattle.mc_journal.specs.Used.{is_begun}
 use Rattle.mc_player.specs.declared.record.Order.{Order}
 use Rattle.mc_player.specs.declared.record.Order.TheVariants as order
 use Rattle.mc_player.specs.declared.record.Outcome.{Outcome}
 use Rattle.mc_player.specs.declared.record.Outcome.TheVariants as outcome
 use Rattle.mc_player.specs.declared.record.CoreRecord.{CoreRecord}
-use Rattle.mc_player.specs.Journals.{out}
 use Rattle.mc_player.specs.Orders.{Item}
-use Rattle.mc_story.specs.Same.{is_of, is_seek_to, is_selection_at, is_silent, same, same_dir, same_set, same_track}
-use Rattle.mc_story.specs.Steps.{Adds, Again, SeekAdds, SelectAdds, Switching, is_plain}
+use Rattle.mc_story.specs.Same.{is_of, is_silent, same, same_dir, same_set, same_track}
+use Rattle.mc_story.specs.Steps.{Again, SeekAdds, SelectAdds, Switching}
 use Rattle.mc_story.specs.Story.{Views}
 use Rattle.mc_story.proofs.Asking.{same_more, same_one, same_silent, same_front}
 use Rattle.mc_story.proofs.Adding.{views_more, views_front}

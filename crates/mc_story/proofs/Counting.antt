@@ -1,5 +1,5 @@
 -- Turns of the core learn just as many views.
-use Rattle.std.proofs.Common.{◌≡◌, ◌⊎◌, inl, inr, ℕ, zero, suc, ◌+◌, Bool, true, false, List, [], ◌∷◌, ◌++◌, Option, Some, None, refl, sym, ap, ◌∙◌, arith}
+use Rattle.std.proofs.Common.{◌≡◌, inl, inr, ℕ, zero, suc, ◌+◌, true, List, [], ◌∷◌, ◌++◌, Option, Some, None, refl, sym, ap, ◌∙◌, arith}
 use Rattle.std.specs.List.{AllByRecursion}
 use Rattle.std.proofs.lemmas.Bool.{true≢false}
 use Rattle.mc_journal.specs.Films.{Film}
@@ -7,10 +7,10 @@ use Rattle.mc_journal.specs.Views.{view}
 use Rattle.mc_player.specs.declared.record.Order.{Order}
 use Rattle.mc_player.specs.declared.record.Order.TheVariants as order
 use Rattle.mc_player.specs.declared.record.CoreRecord.{CoreRecord}
-use Rattle.mc_player.specs.declared.record.CoreRecord.TheVariants.{Learned, Wrote, Took, Ordered, Did, Pushed, Replied}
+use Rattle.mc_player.specs.declared.record.CoreRecord.TheVariants.{Learned, Wrote, Took, Did, Pushed, Replied}
 use Rattle.mc_player.specs.Lives.{Table}
 use Rattle.mc_player.specs.Orders.{Opening}
-use Rattle.mc_story.specs.Steps.{Adds, Both, Carrying, Doing, Learning, TookOne, Working, Works, is_effect}
+use Rattle.mc_story.specs.Steps.{Adds, Both, TookOne, Works, is_effect}
 use Rattle.mc_story.specs.Turns.{CoreTurn, CoreTurns, TurnEnds, views_learned}
 
 effect_none : (r : CoreRecord) (h : List CoreRecord) → is_effect r ≡ true → views_learned (r ∷ h) ≡ views_learned h

@@ -6,3 +6,6 @@ pub mod Running
 pub mod Turning
 pub mod Counting
 pub mod Knowing
+pub mod Worked
+pub mod WorkedRun
+pub mod WorkedSelect

@@ -1,10 +1,8 @@
 -- Every list of steps keeps the tie, and a tied world's journals tell one story.
-use Rattle.std.proofs.Common.{◌≡◌, ℕ, true, false, List, [], ◌∷◌, Option, None, refl, subst}
+use Rattle.std.proofs.Common.{ℕ, List, [], ◌∷◌, refl, subst}
 use Rattle.std.specs.List.{AllByRecursion}
 use Rattle.mc_packet.specs.declared.choice.Choice.{Choice}
 use Rattle.mc_journal.specs.Films.{Film}
-use Rattle.mc_player.specs.declared.record.Order.{Order}
-use Rattle.mc_player.specs.declared.record.Order.TheVariants as order
 use Rattle.mc_player.specs.Lives.{Table}
 use Rattle.mc_player.specs.Rules.{IsAllowed}
 use Rattle.mc_player.proofs.Loading.{loads_once}

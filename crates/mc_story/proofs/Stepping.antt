@@ -1,8 +1,8 @@
 -- Each step keeps the tie.
-use Rattle.std.proofs.Common.{◌≡◌, ◌⊎◌, inl, inr, ℕ, zero, Bool, true, false, List, [], ◌∷◌, ◌++◌, Option, Some, None, ℤ, refl, sym, ap, subst, ◌∙◌}
-use Rattle.std.specs.Prelude.{◌&&◌, ◌||◌, ◌==◌, if◌then◌else◌, IfSome, IsSomeAnd}
+use Rattle.std.proofs.Common.{◌≡◌, inl, inr, ℕ, Bool, true, false, List, [], ◌∷◌, ◌++◌, Option, Some, None, ℤ, refl, sym, subst, ◌∙◌}
+use Rattle.std.specs.Prelude.{◌&&◌, ◌==◌, if◌then◌else◌, IfSome, IsSomeAnd}
 use Rattle.std.specs.List.{AllByRecursion}
-use Rattle.std.proofs.lemmas.Bool.{or_left, or_right, and_from, and_parts, cases_Bool, or_cases, true≢false}
+use Rattle.std.proofs.lemmas.Bool.{or_left, or_right, and_from, and_parts, or_cases, true≢false}
 use Rattle.mc_packet.specs.declared.choice.Choice.{Choice}
 use Rattle.mc_packet.specs.declared.choice.Why.TheVariants.{NoTrack}
 use Rattle.mc_journal.specs.declared.record.DemuxRecord.{DemuxRecord}
@@ -18,12 +18,11 @@ use Rattle.mc_player.specs.declared.record.Outcome.{Outcome}
 use Rattle.mc_player.specs.declared.record.Outcome.TheVariants as outcome
 use Rattle.mc_player.specs.declared.record.CoreRecord.{CoreRecord}
 use Rattle.mc_player.specs.declared.record.CoreRecord.TheVariants.{Learned, Wrote, Took, Ordered, Did, Pushed, Replied}
-use Rattle.mc_player.specs.Journals.{out, loading, is_load}
+use Rattle.mc_player.specs.Journals.{out}
 use Rattle.mc_player.specs.Lives.{Table}
-use Rattle.mc_player.specs.Rules.{IsAllowed, May}
 use Rattle.mc_story.specs.Runs.Step.{Seek, Switch, Other, Learn, Work, Carry, Done, Client, Others}
-use Rattle.mc_player.specs.Orders.{AreLoads, IsOf, Item, Loads, Opening, is_asking, is_loaded, opened, ordered, with_item, with_out}
-use Rattle.mc_story.specs.Runs.{IsUnder, Step, StepOf, Stepped}
+use Rattle.mc_player.specs.Orders.{AreLoads, IsOf, Item, Opening, ordered, with_item, with_out}
+use Rattle.mc_story.specs.Runs.{IsUnder, Step, Stepped}
 use Rattle.mc_story.specs.Same.{behind_silent, first_is, is_of, is_silent, same, same_story}
 use Rattle.mc_story.specs.Steps.{Adds, Both, Carries, Carrying, Doing, Learning, SwitchAdds, TookOne, Working, Works, is_effect, is_foreign, is_inner}
 use Rattle.mc_story.specs.Story.{Views}

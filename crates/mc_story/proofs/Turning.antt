@@ -1,18 +1,14 @@
 -- A turn of the core, and a wait, keep the tie.
-use Rattle.std.proofs.Common.{◌≡◌, ◌⊎◌, inl, inr, ℕ, zero, suc, Bool, true, false, List, [], ◌∷◌, ◌++◌, Option, Some, None, refl, sym, subst, ◌∙◌}
+use Rattle.std.proofs.Common.{◌≡◌, inl, inr, ℕ, true, List, Option, Some, None, sym, subst, ◌∙◌}
 use Rattle.mc_journal.specs.declared.record.DemuxRecord.{DemuxRecord}
 use Rattle.mc_journal.specs.Films.{Film}
 use Rattle.mc_journal.specs.Used.{is_still}
 use Rattle.mc_player.specs.declared.record.Order.{Order}
-use Rattle.mc_player.specs.declared.record.CoreRecord.{CoreRecord}
-use Rattle.mc_player.specs.declared.record.CoreRecord.TheVariants.{Did}
 use Rattle.mc_player.specs.Lives.{Table}
-use Rattle.mc_player.specs.Rules.{IsAllowed}
 use Rattle.mc_player.specs.Orders.{Opening}
-use Rattle.mc_story.specs.Steps.{Adds, Both, Carrying, Doing, is_effect}
+use Rattle.mc_story.specs.Steps.{Both}
 use Rattle.mc_story.specs.Tie.{IsTied}
-use Rattle.mc_story.specs.Turns.{CoreTurn, CoreTurns, TurnEnds, TurnInPart}
-use Rattle.mc_story.proofs.Adding.{both, inner_front}
+use Rattle.mc_story.specs.Turns.{CoreTurn, TurnEnds, TurnInPart}
 use Rattle.mc_story.proofs.Stepping.{carrying_tied, doing_tied, learning_tied, working_tied}
 
 ends_tied : (n : ℕ) (film : Film) (w : Opening) (o : Option Order) (worked s' : Both)

@@ -4,3 +4,6 @@ pub mod Steps
 pub mod Tie
 pub mod Turns
 pub mod Runs
+pub mod Worked
+pub mod WorkedRun
+pub mod WorkedSelect

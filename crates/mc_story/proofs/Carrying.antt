@@ -60,19 +60,19 @@ pub seek_same : (n : ℕ) (t : ℤ) (dir : Dir) (hd : List DemuxRecord) (x : Out
     → follows hd ≡ false → SeekAdds n t dir hd x new → same n hd is ≡ true → same n new (record { order = order.Seek t dir; outcome = Some x } ∷ is) ≡ true
 seek_same n t dir hd outcome.Sought new is f a s =
     let one : same n (Sought n (selected hd) t dir a.0 ∷ hd) (record { order = order.Seek t dir; outcome = Some outcome.Sought } ∷ is) ≡ true =
-        same_one n (Sought n (selected hd) t dir a.0) hd (record { order = order.Seek t dir; outcome = Some outcome.Sought }) is (asked_seek n hd f) (seek_is n (selected hd) t dir a.0) s in
+    same_one n (Sought n (selected hd) t dir a.0) hd (record { order = order.Seek t dir; outcome = Some outcome.Sought }) is (asked_seek n hd f) (seek_is n (selected hd) t dir a.0) s in
     subst (λ (k : List DemuxRecord). same n k (record { order = order.Seek t dir; outcome = Some outcome.Sought } ∷ is) ≡ true) (sym a.1.grows)
-        (same_front n a.1.extras (Sought n (selected hd) t dir a.0 ∷ hd) (record { order = order.Seek t dir; outcome = Some outcome.Sought } ∷ is) a.1.are one)
+    (same_front n a.1.extras (Sought n (selected hd) t dir a.0 ∷ hd) (record { order = order.Seek t dir; outcome = Some outcome.Sought } ∷ is) a.1.are one)
 seek_same n t dir hd (outcome.Refused NoTrack) new is f a s =
     subst (λ (k : List DemuxRecord). same n k (record { order = order.Seek t dir; outcome = Some (outcome.Refused NoTrack) } ∷ is) ≡ true) (sym a)
-        (same_one n (Refused n NoTrack) hd (record { order = order.Seek t dir; outcome = Some (outcome.Refused NoTrack) }) is (eq-eqb n n refl) refl s)
+    (same_one n (Refused n NoTrack) hd (record { order = order.Seek t dir; outcome = Some (outcome.Refused NoTrack) }) is (eq-eqb n n refl) refl s)
 seek_same n t dir hd x new is f a s = absurd a
 
 pub seek_views : (n by : ℕ) (film : Film) (t : ℤ) (dir : Dir) (hd : List DemuxRecord) (x : Outcome) (new : List DemuxRecord) (hc : List CoreRecord)
     → SeekAdds by t dir hd x new → Views n film hd hc → Views n film new hc
 seek_views n by film t dir hd outcome.Sought new hc a v =
     subst (λ (k : List DemuxRecord). Views n film k hc) (sym a.1.grows)
-        (views_front n film a.1.extras (Sought by (selected hd) t dir a.0 ∷ hd) hc (views_more n film (Sought by (selected hd) t dir a.0) hd hc v))
+    (views_front n film a.1.extras (Sought by (selected hd) t dir a.0 ∷ hd) hc (views_more n film (Sought by (selected hd) t dir a.0) hd hc v))
 seek_views n by film t dir hd (outcome.Refused NoTrack) new hc a v =
     subst (λ (k : List DemuxRecord). Views n film k hc) (sym a) (views_more n film (Refused by NoTrack) hd hc v)
 seek_views n by film t dir hd x new hc a v = absurd a
@@ -82,8 +82,8 @@ pub seek_other : (n by : ℕ) (t : ℤ) (dir : Dir) (hd : List DemuxRecord) (x :
     → (by == n) ≡ false → SeekAdds by t dir hd x new → same n hd is ≡ true → same n new is ≡ true
 seek_other n by t dir hd outcome.Sought new is d a s =
     subst (λ (k : List DemuxRecord). same n k is ≡ true) (sym a.1.grows)
-        (same_front n a.1.extras (Sought by (selected hd) t dir a.0 ∷ hd) is a.1.are
-        (same_more n (Sought by (selected hd) t dir a.0) hd is (and_left (by == n) (not (follows hd)) d) s))
+    (same_front n a.1.extras (Sought by (selected hd) t dir a.0 ∷ hd) is a.1.are
+    (same_more n (Sought by (selected hd) t dir a.0) hd is (and_left (by == n) (not (follows hd)) d) s))
 seek_other n by t dir hd (outcome.Refused NoTrack) new is d a s =
     subst (λ (k : List DemuxRecord). same n k is ≡ true) (sym a) (same_more n (Refused by NoTrack) hd is d s)
 seek_other n by t dir hd x new is d a s = absurd a
@@ -105,7 +105,7 @@ switch_same : (n by : ℕ) (set : Choice) (at : ℤ) (hd new : List DemuxRecord)
     → same n (Switched by set s.added at ∷ hd) is ≡ true → same n new is ≡ true
 switch_same n by set at hd new is s e =
     subst (λ (k : List DemuxRecord). same n k is ≡ true) (sym s.adds.grows)
-        (same_front n s.adds.extras s.asked is s.adds.are (again_same n by set s.added at (pending hd) hd s.asked is refl s.again e))
+    (same_front n s.adds.extras s.asked is s.adds.are (again_same n by set s.added at (pending hd) hd s.asked is refl s.again e))
 
 -- the item of a selection
 pub select_same : (n : ℕ) (set : Choice) (at : ℤ) (hd : List DemuxRecord) (x : Outcome) (new : List DemuxRecord) (is : List Item)
@@ -113,8 +113,10 @@ pub select_same : (n : ℕ) (set : Choice) (at : ℤ) (hd : List DemuxRecord) (x
 select_same n set at hd (outcome.Selected k) new is b a s =
     let i : Item = record { order = order.Select set at; outcome = Some (outcome.Selected set) } in
     let goal : same n new (i ∷ is) ≡ true =
-        elim a.1 [ inl c ↦ subst (λ (k : List DemuxRecord). same n k (i ∷ is) ≡ true) (sym c.1) (same_silent n hd i is b (quiet set at (selected hd) c.0) s)
-                 | inr w ↦ switch_same n n set at hd new (i ∷ is) w (same_one n (Switched n set w.added at) hd i is (eq-eqb n n refl) (selection_is n set w.added at) s) ] in
+    elim a.1 [
+      | inl c ↦ subst (λ (k : List DemuxRecord). same n k (i ∷ is) ≡ true) (sym c.1) (same_silent n hd i is b (quiet set at (selected hd) c.0) s)
+      | inr w ↦ switch_same n n set at hd new (i ∷ is) w (same_one n (Switched n set w.added at) hd i is (eq-eqb n n refl) (selection_is n set w.added at) s)
+    ] in
     subst (λ (c : Choice). same n new (record { order = order.Select set at; outcome = Some (outcome.Selected c) } ∷ is) ≡ true) (sym a.0) goal
   where
     quiet : (set : Choice) (at : ℤ) (c : Choice) → set ≡ c → is_silent c (record { order = order.Select set at; outcome = Some (outcome.Selected set) }) ≡ true
@@ -129,8 +131,8 @@ pub switch_views : (n by : ℕ) (film : Film) (set : Choice) (at : ℤ) (hd new 
     → Switching by set at hd new → Views n film hd hc → Views n film new hc
 switch_views n by film set at hd new hc s v =
     subst (λ (k : List DemuxRecord). Views n film k hc) (sym s.adds.grows)
-        (views_front n film s.adds.extras s.asked hc (again_views n by film set (pending hd) (Switched by set s.added at ∷ hd) s.asked hc s.again
-        (views_more n film (Switched by set s.added at) hd hc v)))
+    (views_front n film s.adds.extras s.asked hc (again_views n by film set (pending hd) (Switched by set s.added at ∷ hd) s.asked hc s.again
+    (views_more n film (Switched by set s.added at) hd hc v)))
 
 pub select_views : (n by : ℕ) (film : Film) (set : Choice) (at : ℤ) (hd : List DemuxRecord) (x : Outcome) (new : List DemuxRecord) (hc : List CoreRecord)
     → SelectAdds by set at hd x new → Views n film hd hc → Views n film new hc

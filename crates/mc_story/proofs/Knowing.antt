@@ -64,8 +64,9 @@ out_known w t hc set at a l e =
     let k = knows_tracks t hc a in
     let here : is_known (knows (facts_of t hc).tracks) set ≡ true = subst (λ (o : Option Order). Selects (facts_of t hc) o) e k.ordered in
     elim (tracks_are w t hc l) [
-          inl none ↦ none_known w.tracks set (subst (λ (k : List Track). is_known (knows k) set ≡ true) none here)
-        | inr some ↦ subst (λ (k : List Track). is_known (knows k) set ≡ true) some here ]
+      | inl none ↦ none_known w.tracks set (subst (λ (k : List Track). is_known (knows k) set ≡ true) none here)
+      | inr some ↦ subst (λ (k : List Track). is_known (knows k) set ≡ true) some here
+    ]
 
 pub known_order : (n : ℕ) (film : Film) (w : Opening) (t : Table) (s : Both) (set : Choice) (at : ℤ) → IsAllowed t s.hc → IsTied n film w s → s.order ≡ Some (order.Select set at)
     → is_known (knows w.tracks) set ≡ true

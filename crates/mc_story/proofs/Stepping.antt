@@ -45,17 +45,18 @@ silent_forget set o x e = and_from _ _ (and_parts _ _ e).0 refl
 behind_forget : (set : Choice) (test : List Item → Bool) (i j : Item) (is : List Item) → (test (i ∷ is) ≡ true → test (j ∷ is) ≡ true) → (is_silent set i ≡ true → is_silent set j ≡ true)
     → behind_silent set test (i ∷ is) ≡ true → behind_silent set test (j ∷ is) ≡ true
 behind_forget set test i j is f g e =
-    elim (or_cases (test (i ∷ is)) (is_silent set i && behind_silent set test is) e)
-        [ inl a ↦ or_left (test (j ∷ is)) (is_silent set j && behind_silent set test is) (f a)
-        | inr b ↦ or_right (test (j ∷ is)) (is_silent set j && behind_silent set test is)
-            (and_from (is_silent set j) (behind_silent set test is) (g (and_parts (is_silent set i) (behind_silent set test is) b).0) (and_parts (is_silent set i) (behind_silent set test is) b).1) ]
+    elim (or_cases (test (i ∷ is)) (is_silent set i && behind_silent set test is) e) [
+      | inl a ↦ or_left (test (j ∷ is)) (is_silent set j && behind_silent set test is) (f a)
+      | inr b ↦ or_right (test (j ∷ is)) (is_silent set j && behind_silent set test is)
+          (and_from (is_silent set j) (behind_silent set test is) (g (and_parts (is_silent set i) (behind_silent set test is) b).0) (and_parts (is_silent set i) (behind_silent set test is) b).1)
+    ]
 
 same_forget : (n : ℕ) (h : List DemuxRecord) (o : Order) (x : Outcome) (is : List Item)
     → same n h (record { order = o; outcome = Some x } ∷ is) ≡ true → same n h (record { order = o; outcome = None } ∷ is) ≡ true
 same_forget n [] o x is e = absurd (true≢false (sym e))
 same_forget n (r ∷ h) o x is e =
     behind_forget (selected (r ∷ h)) (if is_asked n h r then first_is r (same n h) else same n h) (record { order = o; outcome = Some x }) (record { order = o; outcome = None }) is
-        (inside (is_asked n h r) r (same n h) o x is (same_forget n h o x is)) (silent_forget (selected (r ∷ h)) o x) e
+    (inside (is_asked n h r) r (same n h) o x is (same_forget n h o x is)) (silent_forget (selected (r ∷ h)) o x) e
   where
     inside : (b : Bool) (r : DemuxRecord) (test : List Item → Bool) (o : Order) (x : Outcome) (is : List Item)
         → (test (record { order = o; outcome = Some x } ∷ is) ≡ true → test (record { order = o; outcome = None } ∷ is) ≡ true)
@@ -123,8 +124,9 @@ given_tied n by film w hd hc o new a i =
 work_tied : (n by : ℕ) (film : Film) (w : Opening) (t : Table) (hd : List DemuxRecord) (hc : List CoreRecord) (o : Option Order) (new : List CoreRecord)
     → Works t by hc o new → IsTied n film w (both hd hc None None) → IsTied n film w (both hd new o None)
 work_tied n by film w t hd hc None new a i = elim a [
-      inl e ↦ subst (λ (k : List CoreRecord). IsTied n film w (both hd k None None)) (sym e.0) i
-    | inr e ↦ took_tied n by film w hd hc new e i ]
+  | inl e ↦ subst (λ (k : List CoreRecord). IsTied n film w (both hd k None None)) (sym e.0) i
+  | inr e ↦ took_tied n by film w hd hc new e i
+]
 work_tied n by film w t hd hc (Some order.Load) new a i =
     subst (λ (k : List CoreRecord). IsTied n film w (both hd k (Some order.Load) None)) (sym a) (order_tied n by film w hd hc order.Load i)
 work_tied n by film w t hd hc (Some o) new a i = given_tied n by film w hd hc o new a i
@@ -192,64 +194,66 @@ done_tied n by film w hd hc o x i =
 switch_tied : (n by : ℕ) (film : Film) (w : Opening) (set : Choice) (at : ℤ) (hd new : List DemuxRecord) (hc : List CoreRecord) (o : Option Order) (x : Option Outcome)
     → (by == n) ≡ false → SwitchAdds by set at hd new → IsTied n film w (both hd hc o x) → IsTied n film w (both new hc o x)
 switch_tied n by film w set at hd new hc o x d a i = elim a [
-      inl e ↦ subst (λ (k : List DemuxRecord). IsTied n film w (both k hc o x)) (sym e) i
-    | inr b ↦ elim b [
-          inl s ↦ with_hd n film w hd new hc o x (switch_other n by set at hd new (so_far x (out hc) (ordered hc)) d s i.asked) (switch_views n by film set at hd new hc s i.learned) i
-        | inr r ↦ subst (λ (k : List DemuxRecord). IsTied n film w (both k hc o x)) (sym r.1)
-            (with_hd n film w hd (Refused by r.0 ∷ hd) hc o x (same_more n (Refused by r.0) hd (so_far x (out hc) (ordered hc)) d i.asked) (views_more n film (Refused by r.0) hd hc i.learned) i) ] ]
+  | inl e ↦ subst (λ (k : List DemuxRecord). IsTied n film w (both k hc o x)) (sym e) i
+  | inr b ↦ elim b [
+    | inl s ↦ with_hd n film w hd new hc o x (switch_other n by set at hd new (so_far x (out hc) (ordered hc)) d s i.asked) (switch_views n by film set at hd new hc s i.learned) i
+    | inr r ↦ subst (λ (k : List DemuxRecord). IsTied n film w (both k hc o x)) (sym r.1)
+        (with_hd n film w hd (Refused by r.0 ∷ hd) hc o x (same_more n (Refused by r.0) hd (so_far x (out hc) (ordered hc)) d i.asked) (views_more n film (Refused by r.0) hd hc i.learned) i)
+  ]
+]
 
 -- ---- each step of the player
 
 pub learning_tied : (n by : ℕ) (film : Film) (w : Opening) (s s' : Both) → Learning film by s s' → IsTied n film w s → IsTied n film w s'
 learning_tied n by film w s s' p i =
     moved n film w s.hd s'.hd s'.hc s'.hc s.order s'.order s.carried s'.carried p.demux refl p.order p.carried
-        (effects n film w s.hd (Learned by (view film.packets s.hd) ∷ s.hc) s'.hc s.order s.carried p.adds
-            (learn_tied n by film w s.hd s.hc s.order s.carried (view film.packets s.hd) refl i))
+    (effects n film w s.hd (Learned by (view film.packets s.hd) ∷ s.hc) s'.hc s.order s.carried p.adds
+    (learn_tied n by film w s.hd s.hc s.order s.carried (view film.packets s.hd) refl i))
 
 pub working_tied : (n by : ℕ) (film : Film) (w : Opening) (t : Table) (s s' : Both) → Working t by s s' → IsTied n film w s → IsTied n film w s'
 working_tied n by film w t s s' p i =
     let c : s.carried ≡ None = none_carried w s.carried s.order p.free i.carried_is in
     let j : IsTied n film w (both s.hd s.hc None None) = moved n film w s.hd s.hd s.hc s.hc s.order None s.carried None refl refl (sym p.free) (sym c) i in
     moved n film w s.hd s'.hd s'.hc s'.hc s'.order s'.order None s'.carried p.demux refl refl (p.carried ∙ c)
-        (work_tied n by film w t s.hd s.hc s'.order s'.hc p.works j)
+    (work_tied n by film w t s.hd s.hc s'.order s'.hc p.works j)
 
 pub carrying_tied : (n : ℕ) (film : Film) (w : Opening) (s s' : Both) → is_still film.packets s.hd ≡ true → Carrying w n s s' → IsTied n film w s → IsTied n film w s'
 carrying_tied n film w s s' f p i =
     let j : IsTied n film w (both s.hd s.hc (Some p.order) None) = moved n film w s.hd s.hd s.hc s.hc s.order (Some p.order) s.carried None refl refl (sym p.is_out) (sym p.once) i in
     moved n film w s'.hd s'.hd s.hc s'.hc (Some p.order) s'.order (Some p.outcome) s'.carried refl p.still (p.same_order ∙ p.is_out) p.is_carried
-        (carry_tied n film w s.hd s'.hd s.hc p.order p.outcome f p.carries j)
+    (carry_tied n film w s.hd s'.hd s.hc p.order p.outcome f p.carries j)
 
 pub doing_tied : (n by : ℕ) (film : Film) (w : Opening) (s s' : Both) → Doing by s s' → IsTied n film w s → IsTied n film w s'
 doing_tied n by film w s s' p i =
     let j : IsTied n film w (both s.hd s.hc (Some p.order) (Some p.outcome)) =
-        moved n film w s.hd s.hd s.hc s.hc s.order (Some p.order) s.carried (Some p.outcome) refl refl (sym p.is_out) (sym p.was_carried) i in
+    moved n film w s.hd s.hd s.hc s.hc s.order (Some p.order) s.carried (Some p.outcome) refl refl (sym p.is_out) (sym p.was_carried) i in
     moved n film w s.hd s'.hd s'.hc s'.hc None s'.order None s'.carried p.demux refl p.free p.fresh
-        (effects n film w s.hd (Did by p.outcome ∷ s.hc) s'.hc None None p.adds (done_tied n by film w s.hd s.hc p.order p.outcome j))
+    (effects n film w s.hd (Did by p.outcome ∷ s.hc) s'.hc None None p.adds (done_tied n by film w s.hd s.hc p.order p.outcome j))
 
 -- ---- every step
 
 pub step_tied : (n : ℕ) (film : Film) (w : Opening) (t : Table) (step : Step) (s s' : Both) → IsUnder n step → Stepped film w t step s s' → IsTied n film w s → IsTied n film w s'
 step_tied n film w t (Seek by time dir) s s' u p i =
     moved n film w s'.hd s'.hd s.hc s'.hc s.order s'.order s.carried s'.carried refl p.is.still p.is.order p.is.carried
-        (with_hd n film w s.hd s'.hd s.hc s.order s.carried
-            (seek_other n by time dir s.hd p.is.adds.0 s'.hd (so_far s.carried (out s.hc) (ordered s.hc)) u p.is.adds.1 i.asked)
-            (seek_views n by film time dir s.hd p.is.adds.0 s'.hd s.hc p.is.adds.1 i.learned) i)
+    (with_hd n film w s.hd s'.hd s.hc s.order s.carried
+    (seek_other n by time dir s.hd p.is.adds.0 s'.hd (so_far s.carried (out s.hc) (ordered s.hc)) u p.is.adds.1 i.asked)
+    (seek_views n by film time dir s.hd p.is.adds.0 s'.hd s.hc p.is.adds.1 i.learned) i)
 step_tied n film w t (Switch by set at) s s' u p i =
     moved n film w s'.hd s'.hd s.hc s'.hc s.order s'.order s.carried s'.carried refl p.is.still p.is.order p.is.carried
-        (switch_tied n by film w set at s.hd s'.hd s.hc s.order s.carried u p.is.adds i)
+    (switch_tied n by film w set at s.hd s'.hd s.hc s.order s.carried u p.is.adds i)
 step_tied n film w t Other s s' u p i =
     moved n film w (p.is.adds.extras ++ s.hd) s'.hd s.hc s'.hc s.order s'.order s.carried s'.carried p.is.adds.grows p.is.still p.is.order p.is.carried
-        (demux_front n film w p.is.adds.extras s.hd s.hc s.order s.carried p.is.adds.are i)
+    (demux_front n film w p.is.adds.extras s.hd s.hc s.order s.carried p.is.adds.are i)
 step_tied n film w t (Learn by) s s' u p i = learning_tied n by film w s s' p.is i
 step_tied n film w t (Work by) s s' u p i = working_tied n by film w t s s' p.is i
 step_tied n film w t (Carry by) s s' u p i = carrying_tied n film w s s' p.at_rest (subst (λ (k : ℕ). Carrying w k s s') u p.is) i
 step_tied n film w t (Done by) s s' u p i = doing_tied n by film w s s' p.is i
 step_tied n film w t Client s s' u p i =
     moved n film w s.hd s'.hd (p.is.adds.extras ++ s.hc) s'.hc s.order s'.order s.carried s'.carried p.is.demux p.is.adds.grows p.is.order p.is.carried
-        (inner_front n film w s.hd p.is.adds.extras s.hc s.order s.carried p.is.adds.are i)
+    (inner_front n film w s.hd p.is.adds.extras s.hc s.order s.carried p.is.adds.are i)
 step_tied n film w t (Others m) s s' u p i =
     let rs : AllByRecursion (λ r. is_foreign n r ≡ true) p.is.demux.extras =
-        subst (λ (k : ℕ). AllByRecursion (λ r. is_foreign k r ≡ true) p.is.demux.extras) u p.is.demux.are in
+    subst (λ (k : ℕ). AllByRecursion (λ r. is_foreign k r ≡ true) p.is.demux.extras) u p.is.demux.are in
     moved n film w (p.is.demux.extras ++ s.hd) s'.hd (p.is.core.extras ++ s.hc) s'.hc s.order s'.order s.carried s'.carried p.is.demux.grows p.is.core.grows p.is.order p.is.carried
-        (inner_front n film w (p.is.demux.extras ++ s.hd) p.is.core.extras s.hc s.order s.carried p.is.core.are
-            (foreign_front n film w p.is.demux.extras s.hd s.hc s.order s.carried rs i))
+    (inner_front n film w (p.is.demux.extras ++ s.hd) p.is.core.extras s.hc s.order s.carried p.is.core.are
+    (foreign_front n film w p.is.demux.extras s.hd s.hc s.order s.carried rs i))

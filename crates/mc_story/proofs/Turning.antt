@@ -30,8 +30,10 @@ turn_tied n film w t s s' f p i =
 pub part_tied : (n : ℕ) (film : Film) (w : Opening) (t : Table) (s s' : Both)
     → is_still film.packets s.hd ≡ true → TurnInPart film w t n s s' → IsTied n film w s → IsTied n film w s'
 part_tied n film w t s s' f p i = elim p [
-      inl l ↦ learning_tied n n film w s s' l i
-    | inr q ↦ elim q [
-          inl l ↦ working_tied n n film w t l.learnt s' l.works (learning_tied n n film w s l.learnt l.learns i)
-        | inr l ↦ carrying_tied n film w l.worked s' (still_at film s.hd l.learnt.hd l.worked.hd l.works.demux l.learns.demux f) l.carries
-            (working_tied n n film w t l.learnt l.worked l.works (learning_tied n n film w s l.learnt l.learns i)) ] ]
+  | inl l ↦ learning_tied n n film w s s' l i
+  | inr q ↦ elim q [
+    | inl l ↦ working_tied n n film w t l.learnt s' l.works (learning_tied n n film w s l.learnt l.learns i)
+    | inr l ↦ carrying_tied n film w l.worked s' (still_at film s.hd l.learnt.hd l.worked.hd l.works.demux l.learns.demux f) l.carries
+        (working_tied n n film w t l.learnt l.worked l.works (learning_tied n n film w s l.learnt l.learns i))
+  ]
+]

@@ -58,14 +58,16 @@ learnt_again_allowed : (t : Table) → IsAllowed t (learnt_again t)
 learnt_again_allowed t = (((refl, refl), tt), ((tt, record { due = refl; rest = refl; reply = refl }), called_allowed t))
 
 given_again_allowed : (t : Table) → IsAllowed t (given_again t)
-given_again_allowed t =
-    (((refl, refl), tt),
-    ((record { idle = refl; none_out = refl; begun = refl; goes_on = refl; oldest = (refl, refl, refl) }, record { due = refl; rest = refl; reply = refl }), learnt_again_allowed t))
+given_again_allowed t = (
+  ((refl, refl), tt),
+  ((record { idle = refl; none_out = refl; begun = refl; goes_on = refl; oldest = (refl, refl, refl) }, record { due = refl; rest = refl; reply = refl }), learnt_again_allowed t),
+)
 
 replied_allowed : (t : Table) → IsAllowed t (replied t)
-replied_allowed t =
-    ((record { none_out = refl; none_left = refl; reply = record { of_client = refl; of_ticket = refl; same = refl } }, tt),
-    ((record { next = refl; fate = refl }, tt), ((tt, record { due = refl; rest = refl; reply = refl }), given_again_allowed t)))
+replied_allowed t = (
+  (record { none_out = refl; none_left = refl; reply = record { of_client = refl; of_ticket = refl; same = refl } }, tt),
+  ((record { next = refl; fate = refl }, tt), ((tt, record { due = refl; rest = refl; reply = refl }), given_again_allowed t)),
+)
 
 start_still : is_still one_packets start ≡ true
 start_still = refl
@@ -196,14 +198,40 @@ done_seek t = record {
 
 pub seek_run : (t : Table) → Runs one film_one t steps (fresh_world 0 both) (after_seek t)
 unfolding ease at
-seek_run t =
-    (ease start created, create t,
-    (ease start (learnt t), learn t,
-    (at start (given t) (Some order.Load) None, work t,
-    (at start (given t) (Some order.Load) (Some (opened film_one)), carry t,
-    (ease start (loaded_on t), done t,
-    (ease start (called t), call_seek t,
-    (ease start (learnt_again t), learn_again t,
-    (at start (given_again t) (Some (order.Seek (pos 200000000) Back)) None, work_seek t,
-    (at sought (given_again t) (Some (order.Seek (pos 200000000) Back)) (Some outcome.Sought), carry_seek t,
-    (ease sought (replied t), done_seek t, refl))))))))))
+seek_run t = (
+  ease start created,
+  create t,
+  (
+    ease start (learnt t),
+    learn t,
+    (
+      at start (given t) (Some order.Load) None,
+      work t,
+      (
+        at start (given t) (Some order.Load) (Some (opened film_one)),
+        carry t,
+        (
+          ease start (loaded_on t),
+          done t,
+          (
+            ease start (called t),
+            call_seek t,
+            (
+              ease start (learnt_again t),
+              learn_again t,
+              (
+                at start (given_again t) (Some (order.Seek (pos 200000000) Back)) None,
+                work_seek t,
+                (
+                  at sought (given_again t) (Some (order.Seek (pos 200000000) Back)) (Some outcome.Sought),
+                  carry_seek t,
+                  (ease sought (replied t), done_seek t, refl),
+                ),
+              ),
+            ),
+          ),
+        ),
+      ),
+    ),
+  ),
+)

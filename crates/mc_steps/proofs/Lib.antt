@@ -1,0 +1,2 @@
+pub mod Demuxing
+pub mod Playing

@@ -1,5 +1,5 @@
 -- From the relations of the demuxer's calls to the steps of a world.
-use Rattle.std.proofs.Common.{◌≡◌, ◌⊎◌, inl, inr, ℕ, ℤ, Bool, true, false, List, [], ◌∷◌, ◌++◌, Option, Some, None, refl, sym, ap, subst, ◌∙◌, append_assoc}
+use Rattle.std.proofs.Common.{◌≡◌, inl, inr, ℕ, ℤ, Bool, true, List, [], ◌∷◌, ◌++◌, Option, Some, None, refl, sym, ap, subst, ◌∙◌, append_assoc}
 use Rattle.std.specs.Prelude.{reverse, is_some, Result, Ok, Err}
 use Rattle.std.specs.List.{AllByRecursion}
 use Rattle.std.proofs.lemmas.List.{reverse-append}
@@ -10,11 +10,11 @@ use Rattle.mc_packet.specs.declared.choice.Why.{Why}
 use Rattle.mc_packet.specs.declared.cache.CacheView.{CacheView}
 use Rattle.mc_packet.specs.declared.walk.Chunk.{Chunk}
 use Rattle.mc_journal.specs.Films.{Film}
-use Rattle.mc_journal.specs.Readings.{selected, pending}
+use Rattle.mc_journal.specs.Readings.{pending}
 use Rattle.mc_journal.specs.declared.record.Sought.{Sought as How}
 use Rattle.mc_journal.specs.declared.record.Sought.TheVariants.{Sent}
 use Rattle.mc_journal.specs.declared.record.DemuxRecord.{DemuxRecord}
-use Rattle.mc_journal.specs.declared.record.DemuxRecord.TheVariants.{Sought, Switched, Dropped, Joined, Shown, Found, Fed, Refused as RefusedRecord}
+use Rattle.mc_journal.specs.declared.record.DemuxRecord.TheVariants.{Sought, Switched, Dropped, Joined, Shown, Found, Refused as RefusedRecord}
 use Rattle.mc_calls.specs.declared.answer.DemuxError.{DemuxError}
 use Rattle.mc_calls.specs.declared.answer.DemuxError.TheVariants.{Refused, JournalFull, NoMemory}
 use Rattle.mc_calls.specs.declared.answer.Selected.{Selected}

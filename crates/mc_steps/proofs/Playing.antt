@@ -1,5 +1,5 @@
 -- From what the calls of a player's core say of its journal to the steps of a world.
-use Rattle.std.proofs.Common.{◌≡◌, ◌⊎◌, inl, inr, ℕ, Bool, true, false, List, [], ◌∷◌, ◌++◌, Option, Some, None, refl, sym, ◌∙◌, append_assoc}
+use Rattle.std.proofs.Common.{◌≡◌, inl, inr, ℕ, Bool, true, false, List, [], ◌∷◌, ◌++◌, None, refl, sym, ◌∙◌, append_assoc}
 use Rattle.std.specs.Bool.{MatchBool}
 use Rattle.std.specs.List.{AllByRecursion}
 use Rattle.std.proofs.lemmas.Bool.{true≢false}
@@ -10,7 +10,7 @@ use Rattle.mc_player.specs.declared.record.Answer.{Answer}
 use Rattle.mc_player.specs.declared.record.Order.{Order}
 use Rattle.mc_player.specs.declared.record.Order.TheVariants as order
 use Rattle.mc_player.specs.declared.record.CoreRecord.{CoreRecord}
-use Rattle.mc_player.specs.declared.record.CoreRecord.TheVariants.{Called, Created, Destroyed, Ordered, Pushed, Replied, Took, Wrote}
+use Rattle.mc_player.specs.declared.record.CoreRecord.TheVariants.{Called, Created, Destroyed, Pushed, Replied, Took, Wrote}
 use Rattle.mc_player.specs.Lives.{Table}
 use Rattle.mc_core.specs.Calls.{Answers, is_abort, ticket_of}
 use Rattle.mc_core.specs.Growth as grown

@@ -6,6 +6,6 @@
 //! law of `mc_story`.
 #![tactic(auto)]
 
+mod law;
 
-
-
+pub use law::{core_steps, demux_steps};

@@ -112,16 +112,18 @@ journal_of old new e = ap (λ (d : DemuxState). d.journal) e
 
 pub sought : (film : Film) (by : ℕ) (t : ℤ) (dir : Dir) (old new : DemuxState) (how : How) → StandsFor film old → Seeks by t dir old (Ok how) new
     → SeekAdds by t dir (reverse old.journal) outcome.Sought (reverse new.journal)
-sought film by t dir old new how f s =
-    (how, subst (λ (c : Choice). Adds is_plain (Sought by c t dir how ∷ reverse old.journal) (reverse new.journal)) (sym f.fits.set_is)
-        (wrote by (Sought by old.set t dir how) old.journal new.journal s.3.wrote))
+sought film by t dir old new how f s = (
+  how,
+  subst (λ (c : Choice). Adds is_plain (Sought by c t dir how ∷ reverse old.journal) (reverse new.journal)) (sym f.fits.set_is)
+      (wrote by (Sought by old.set t dir how) old.journal new.journal s.3.wrote),
+)
 
 pub refused : (by : ℕ) (t : ℤ) (dir : Dir) (old new : DemuxState) (why : Why) → Seeks by t dir old (Err (Refused why)) new
     → SeekAdds by t dir (reverse old.journal) (outcome.Refused why) (reverse new.journal)
 refused by t dir old new why s =
     subst (λ (w : Why). SeekAdds by t dir (reverse old.journal) (outcome.Refused w) (reverse new.journal)) (sym s.2)
-        (ap (λ (l : List DemuxRecord). reverse l) (ap (λ (d : DemuxState). d.journal) s.3.changed ∙ ap (λ (w : Why). old.journal ++ RefusedRecord by w ∷ []) s.2)
-        ∙ reverse-append old.journal (RefusedRecord by NoTrack ∷ []))
+    (ap (λ (l : List DemuxRecord). reverse l) (ap (λ (d : DemuxState). d.journal) s.3.changed ∙ ap (λ (w : Why). old.journal ++ RefusedRecord by w ∷ []) s.2)
+    ∙ reverse-append old.journal (RefusedRecord by NoTrack ∷ []))
 
 switching : (by : ℕ) (set : Choice) (at : ℤ) (added : Choice) (o : Option Target) (old new : List DemuxRecord) → pending (reverse old) ≡ is_some o
     → WroteAll by (Switched by set added at ∷ sought_again by set o) old new → Switching by set at (reverse old) (reverse new)

@@ -3,7 +3,6 @@ use Rattle.std.proofs.Common.{◌≡◌, inl, inr, ℕ, Bool, true, false, List,
 use Rattle.std.specs.Bool.{MatchBool}
 use Rattle.std.specs.List.{AllByRecursion}
 use Rattle.std.proofs.lemmas.Bool.{true≢false}
-
 use Rattle.mc_dispatch.specs.declared.call.Call.{Call}
 use Rattle.mc_dispatch.specs.declared.request.ClientNo.{ClientNo}
 use Rattle.mc_player.specs.declared.record.Answer.{Answer}

@@ -40,91 +40,57 @@ ghost use Rattle.mc_steps.specs.Calls.{newest_first};
 /// refusal, whatever it answers.
 pub fn demux_steps()
     // A seek: it is begun, or refused.
-    ensures sought {
-        (film : Film) (by : ℕ) (t : ℤ) (dir : Dir) (old new : DemuxState) (how : How)
+    ensures sought { (film : Film) (by : ℕ) (t : ℤ) (dir : Dir) (old new : DemuxState) (how : How)
         → StandsFor film old → Seeks by t dir old (Ok how) new
-        → SeekAdds by t dir (newest_first old) outcome.Sought (newest_first new)
-    }
-    ensures refused {
-        (by : ℕ) (t : ℤ) (dir : Dir) (old new : DemuxState) (why : Why)
+        → SeekAdds by t dir (newest_first old) outcome.Sought (newest_first new) }
+    ensures refused { (by : ℕ) (t : ℤ) (dir : Dir) (old new : DemuxState) (why : Why)
         → Seeks by t dir old (Err (Refused why)) new
-        → SeekAdds by t dir (newest_first old) (outcome.Refused why) (newest_first new)
-    }
+        → SeekAdds by t dir (newest_first old) (outcome.Refused why) (newest_first new) }
     // A selection: it is made, of the tracks of the numbers; it isn't refused where these are known;
     // and whatever it answers, it is what the driver's step says.
-    ensures selected {
-        (film : Film) (by : ℕ) (numbers : List ℕ) (at : ℤ) (old new : DemuxState)
+    ensures selected { (film : Film) (by : ℕ) (numbers : List ℕ) (at : ℤ) (old new : DemuxState)
         (answer : Selected) → StandsFor film old → Selects by numbers at old (Ok answer) new
         → SelectAdds by (choice_of old.list numbers) at (newest_first old)
-            (outcome.Selected (choice_of old.list numbers)) (newest_first new)
-    }
-    ensures accepted {
-        (by : ℕ) (numbers : List ℕ) (at : ℤ) (old new : DemuxState) (why : Why)
+        (outcome.Selected (choice_of old.list numbers)) (newest_first new) }
+    ensures accepted { (by : ℕ) (numbers : List ℕ) (at : ℤ) (old new : DemuxState) (why : Why)
         → refusal_of old.list numbers ≡ None
-        → Selects by numbers at old (Err (Refused why)) new → ⊥
-    }
-    ensures switched {
-        (film : Film) (by : ℕ) (numbers : List ℕ) (at : ℤ) (old new : DemuxState)
+        → Selects by numbers at old (Err (Refused why)) new → ⊥ }
+    ensures switched { (film : Film) (by : ℕ) (numbers : List ℕ) (at : ℤ) (old new : DemuxState)
         (answer : Result Selected DemuxError)
         → StandsFor film old → Selects by numbers at old answer new
-        → SwitchAdds by (choice_of old.list numbers) at (newest_first old) (newest_first new)
-    }
+        → SwitchAdds by (choice_of old.list numbers) at (newest_first old) (newest_first new) }
     // Reads, looks, and what a job came to.
-    ensures read {
-        (by track : ℕ) (old new : DemuxState) (answer : Result Reading DemuxError)
-        → Reads by track old answer new → Adds is_plain (newest_first old) (newest_first new)
-    }
-    ensures shown {
-        (by : ℕ) (old new : DemuxState) (answer : Result CacheView DemuxError)
-        → Shows by old answer new → Adds is_plain (newest_first old) (newest_first new)
-    }
-    ensures found {
-        (n : ℕ) (starts : Starts) (old new : DemuxState) (answer : Result Taken DemuxError)
-        → Finds n starts old answer new → Adds is_plain (newest_first old) (newest_first new)
-    }
-    ensures fed {
-        (n : ℕ) (chunk : Chunk) (old new : DemuxState) (answer : Result Taken DemuxError)
-        → Feeds n chunk old answer new → Adds is_plain (newest_first old) (newest_first new)
-    }
-    ensures failed {
-        (n : ℕ) (failure : Failure) (old new : DemuxState) (taken : Taken)
+    ensures read { (by track : ℕ) (old new : DemuxState) (answer : Result Reading DemuxError)
+        → Reads by track old answer new → Adds is_plain (newest_first old) (newest_first new) }
+    ensures shown { (by : ℕ) (old new : DemuxState) (answer : Result CacheView DemuxError)
+        → Shows by old answer new → Adds is_plain (newest_first old) (newest_first new) }
+    ensures found { (n : ℕ) (starts : Starts) (old new : DemuxState) (answer : Result Taken DemuxError)
+        → Finds n starts old answer new → Adds is_plain (newest_first old) (newest_first new) }
+    ensures fed { (n : ℕ) (chunk : Chunk) (old new : DemuxState) (answer : Result Taken DemuxError)
+        → Feeds n chunk old answer new → Adds is_plain (newest_first old) (newest_first new) }
+    ensures failed { (n : ℕ) (failure : Failure) (old new : DemuxState) (taken : Taken)
         → Fails n failure (failure_record failure) old taken new
-        → Adds is_plain (newest_first old) (newest_first new)
-    }
+        → Adds is_plain (newest_first old) (newest_first new) }
     // A call that only made room left the journal as it was.
-    ensures left {
-        (old new : DemuxState) → IsAsBefore old new → newest_first new ≡ newest_first old
-    }
+    ensures left { (old new : DemuxState) → IsAsBefore old new → newest_first new ≡ newest_first old }
 {}
 
 /// What a player's core writes behind a view, an outcome or an order is what a world's step says,
 /// and a client's call leaves no view, order or outcome.
 pub fn core_steps()
     // Behind a view and behind an outcome: news, and for an outcome a reply.
-    ensures learned {
-        (by : ℕ) (h new : List CoreRecord)
-        → grown.Adds grown.is_news by h new → Adds is_effect h new
-    }
-    ensures done {
-        (by : ℕ) (h new : List CoreRecord)
-        → grown.Adds grown.is_effect by h new → Adds is_effect h new
-    }
+    ensures learned { (by : ℕ) (h new : List CoreRecord)
+        → grown.Adds grown.is_news by h new → Adds is_effect h new }
+    ensures done { (by : ℕ) (h new : List CoreRecord)
+        → grown.Adds grown.is_effect by h new → Adds is_effect h new }
     // Work, with the order that is out behind it.
-    ensures worked {
-        (t : Table) (by : ℕ) (h new : List CoreRecord) (o : Order)
-        → working.Works t by h o new → Works t by h (working.out_by o) new
-    }
+    ensures worked { (t : Table) (by : ℕ) (h new : List CoreRecord) (o : Order)
+        → working.Works t by h o new → Works t by h (working.out_by o) new }
     // Clients come, go and call.
-    ensures created {
-        (by : ℕ) (c : ClientNo) (name : List ℕ) (size : ℕ) (h new : List CoreRecord)
-        → new ≡ Created by c name size ∷ h → Adds is_inner h new
-    }
-    ensures gone {
-        (by : ℕ) (c : ClientNo) (h new : List CoreRecord)
-        → new ≡ Destroyed by c ∷ h → Adds is_inner h new
-    }
-    ensures called {
-        (by : ℕ) (c : ClientNo) (call : Call) (a : Answer) (h new : List CoreRecord)
-        → Answers by c call a h new → Adds is_inner h new
-    }
+    ensures created { (by : ℕ) (c : ClientNo) (name : List ℕ) (size : ℕ) (h new : List CoreRecord)
+        → new ≡ Created by c name size ∷ h → Adds is_inner h new }
+    ensures gone { (by : ℕ) (c : ClientNo) (h new : List CoreRecord)
+        → new ≡ Destroyed by c ∷ h → Adds is_inner h new }
+    ensures called { (by : ℕ) (c : ClientNo) (call : Call) (a : Answer) (h new : List CoreRecord)
+        → Answers by c call a h new → Adds is_inner h new }
 {}

@@ -46,8 +46,8 @@ pub fn demux_steps()
     ensures refused { (by : ℕ) (t : ℤ) (dir : Dir) (old new : DemuxState) (why : Why)
         → Seeks by t dir old (Err (Refused why)) new
         → SeekAdds by t dir (newest_first old) (outcome.Refused why) (newest_first new) }
-    // A selection: it is made, of the tracks of the numbers; it isn't refused where these are known;
-    // and whatever it answers, it is what the driver's step says.
+    // A selection: it is made, of the tracks of the numbers; it isn't refused where these are
+    // known; and whatever it answers, it is what the driver's step says.
     ensures selected { (film : Film) (by : ℕ) (numbers : List ℕ) (at : ℤ) (old new : DemuxState)
         (answer : Selected) → StandsFor film old → Selects by numbers at old (Ok answer) new
         → SelectAdds by (choice_of old.list numbers) at (newest_first old)
@@ -64,7 +64,8 @@ pub fn demux_steps()
         → Reads by track old answer new → Adds is_plain (newest_first old) (newest_first new) }
     ensures shown { (by : ℕ) (old new : DemuxState) (answer : Result CacheView DemuxError)
         → Shows by old answer new → Adds is_plain (newest_first old) (newest_first new) }
-    ensures found { (n : ℕ) (starts : Starts) (old new : DemuxState) (answer : Result Taken DemuxError)
+    ensures found { (n : ℕ) (starts : Starts) (old new : DemuxState)
+        (answer : Result Taken DemuxError)
         → Finds n starts old answer new → Adds is_plain (newest_first old) (newest_first new) }
     ensures fed { (n : ℕ) (chunk : Chunk) (old new : DemuxState) (answer : Result Taken DemuxError)
         → Feeds n chunk old answer new → Adds is_plain (newest_first old) (newest_first new) }
@@ -72,7 +73,8 @@ pub fn demux_steps()
         → Fails n failure (failure_record failure) old taken new
         → Adds is_plain (newest_first old) (newest_first new) }
     // A call that only made room left the journal as it was.
-    ensures left { (old new : DemuxState) → IsAsBefore old new → newest_first new ≡ newest_first old }
+    ensures left { (old new : DemuxState) → IsAsBefore old new
+        → newest_first new ≡ newest_first old }
 {}
 
 /// What a player's core writes behind a view, an outcome or an order is what a world's step says,

@@ -11,9 +11,9 @@ use Rattle.mc_player.specs.Rules.{IsAllowed}
 use Rattle.mc_story.specs.Steps.{Adds, Both, Calling, Carrying, Demuxing, Doing, Learning, SeekAdds, Seeing, SwitchAdds, Working, is_plain}
 
 -- the steps, with the caller's number where a record bears it. `Other` is every step of the demuxer
--- that is no seek and no selection: a look, a job and its outcome, a read. `Client` is every step of
--- a client: it comes, goes, or calls. `Others` is all that others than this caller did since it last
--- looked, where many call
+-- that is no seek and no selection: a look, a job and its outcome, a read. `Client` is every step
+-- of a client: it comes, goes, or calls. `Others` is all that others than this caller did since it
+-- last looked, where many call
 pub data Step : Type 0 where
   Seek : ℕ → ℤ → Dir → Step
   Switch : ℕ → Choice → ℤ → Step
@@ -38,8 +38,8 @@ StepOf film w t (Done by) s s' = Doing by s s'
 StepOf film w t Client s s' = Calling s s'
 StepOf film w t (Others n) s s' = Seeing n s s'
 
--- a step, with what the two types keep: a demuxer is at rest between its calls, and each record of a
--- player was allowed
+-- a step, with what the two types keep: a demuxer is at rest between its calls, and each record of
+-- a player was allowed
 pub record Stepped (film : Film) (w : Opening) (t : Table) (step : Step) (s s' : Both)
     : Type 0 where
   pub at_rest : is_still film.packets s.hd ≡ true

@@ -116,7 +116,8 @@ Idles t hc = (loading hc ≡ true) × ((quits t hc ≡ true) ⊎ (queued hc ≡ 
 abbrev pub Works : Table → ℕ → List CoreRecord → Option Order → List CoreRecord → Type 0
 Works t by hc None new = ((new ≡ hc) × Idles t hc) ⊎ TookOne by hc new
 Works t by hc (Some order.Load) new = new ≡ Ordered by order.Load ∷ hc
-Works t by hc (Some o) new = (mid : List CoreRecord) × TookOne by hc mid × (new ≡ Ordered by o ∷ mid)
+Works t by hc (Some o) new =
+    (mid : List CoreRecord) × TookOne by hc mid × (new ≡ Ordered by o ∷ mid)
 
 -- ---- steps
 

@@ -18,8 +18,8 @@ so_far None o is = is
 so_far (Some x) o is = with_out o (Some x) is
 
 -- caller n asked what was carried so far; each learned view is one of the demuxer's; each file that
--- was loaded is the one that is opened; the order is the one that is out, and what was carried is an
--- outcome of it
+-- was loaded is the one that is opened; the order is the one that is out, and what was carried is
+-- an outcome of it
 pub record IsTied (n : ℕ) (film : Film) (w : Opening) (s : Both) : Type 0 where
   pub asked : same n s.hd (so_far s.carried (out s.hc) (ordered s.hc)) ≡ true
   pub learned : Views n film s.hd s.hc

@@ -1,5 +1,5 @@
--- Two journals over the first film of `mc_journal`, worked out by hand, and wrong ones. Each has its
--- newest record first.
+-- Two journals over the first film of `mc_journal`, worked out by hand, and wrong ones. Each has
+-- its newest record first.
 use Rattle.std.specs.Prelude.{ℕ, pos, false, true, List, [], ◌∷◌, Some, None, codes}
 use Rattle.mc_packet.specs.declared.choice.Choice.{Choice}
 use Rattle.mc_packet.specs.declared.choice.Dir.TheVariants.{Back, Forward}
@@ -42,8 +42,8 @@ track n kind = record {
 abbrev pub film_one : Opening
 film_one = record { path = codes "F1"; tracks = track 1 Video ∷ track 2 Audio ∷ []; set = both }
 
--- a part is read and given; the player seeks; a part is read and given there; the player selects the
--- video track alone, and the driver seeks; the player selects nothing, and its seek is refused
+-- a part is read and given; the player seeks; a part is read and given there; the player selects
+-- the video track alone, and the driver seeks; the player selects nothing, and its seek is refused
 abbrev pub hd : List DemuxRecord
 hd =
     Refused 1 NoTrack
@@ -66,8 +66,8 @@ view_opened = view one_packets (Opened 0 both ∷ [])
 abbrev pub view_given : CacheView
 view_given = view one_packets (video v86 ∷ read opening (c0 93) 1 ∷ Opened 0 both ∷ [])
 
--- the same set is selected twice: the second order leaves no record of the demuxer. The last seek has
--- no outcome yet
+-- the same set is selected twice: the second order leaves no record of the demuxer. The last seek
+-- has no outcome yet
 abbrev pub hc : List CoreRecord
 hc =
     Ordered 1 (order.Seek (pos 5) Forward)

@@ -1,5 +1,5 @@
--- A run of a world over the first film: a client comes, the film is loaded, the client seeks, and is
--- answered.
+-- A run of a world over the first film: a client comes, the film is loaded, the client seeks, and
+-- is answered.
 use Rattle.std.specs.Prelude.{ℕ, pos, true, List, [], ◌∷◌, Some, None, codes}
 use Rattle.mc_packet.specs.declared.choice.Dir.TheVariants.{Back}
 use Rattle.mc_journal.specs.declared.record.Sought.TheVariants.{Sent}

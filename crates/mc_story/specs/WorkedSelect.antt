@@ -38,14 +38,16 @@ called_twice = Called 6 a (Some 9) (no_sound 8) answer.Ok ∷ called
 
 abbrev pub learnt : List CoreRecord
 learnt =
-    Wrote 1 16 (facts_of table (Learned 1 view_opened ∷ called_twice)) ∷ Learned 1 view_opened ∷ called_twice
+    Wrote 1 16 (facts_of table (Learned 1 view_opened ∷ called_twice))
+    ∷ Learned 1 view_opened ∷ called_twice
 
 abbrev pub given : List CoreRecord
 given = Ordered 1 (order.Select alone (pos 0)) ∷ Took 1 a 8 7 ∷ learnt
 
 abbrev pub done : List CoreRecord
 done =
-    Wrote 1 8 (facts_of table (Did 1 (outcome.Selected alone) ∷ given)) ∷ Did 1 (outcome.Selected alone) ∷ given
+    Wrote 1 8 (facts_of table (Did 1 (outcome.Selected alone) ∷ given))
+    ∷ Did 1 (outcome.Selected alone) ∷ given
 
 abbrev pub replied : List CoreRecord
 replied = Replied 1 a 8 (event.SetReply 7 (pos 0)) ∷ done
@@ -55,7 +57,8 @@ given_again = Ordered 1 (order.Select alone (pos 0)) ∷ Took 1 a 9 8 ∷ replie
 
 abbrev pub done_again : List CoreRecord
 done_again =
-    Wrote 1 8 (facts_of table (Did 1 (outcome.Selected alone) ∷ given_again)) ∷ Did 1 (outcome.Selected alone) ∷ given_again
+    Wrote 1 8 (facts_of table (Did 1 (outcome.Selected alone) ∷ given_again))
+    ∷ Did 1 (outcome.Selected alone) ∷ given_again
 
 abbrev pub switched : List DemuxRecord
 switched = Switched 1 alone nothing (pos 0) ∷ start

@@ -1,4 +1,5 @@
-//! Journals of a demuxer and a player, worked out by hand, on which it is seen what tells one story.
+//! Journals of a demuxer and a player, worked out by hand, on which it is seen what tells one
+//! story.
 ghost use Rattle.std.specs.Prelude.{◌≡◌, false};
 ghost use Rattle.mc_journal.specs.Worked.{both, start};
 ghost use Rattle.mc_journal.specs.WorkedFilms.{one};

@@ -57,13 +57,15 @@ pub fn counted_turns()
         → CoreTurns film w t by n s e → views_learned e.hc ≡ views_learned s.hc + n }
 {}
 
-/// The tracks of a selection that is out are known ones of the file that was opened, and the demuxer
-/// does not refuse to select them by their numbers, and selects just these.
+/// The tracks of a selection that is out are known ones of the file that was opened, and the
+/// demuxer does not refuse to select them by their numbers, and selects just these.
 pub fn known_orders()
-    ensures known { (n : ℕ) (film : Film) (w : Opening) (t : Table) (s : Both) (set : Choice) (at : ℤ)
+    ensures known { (n : ℕ) (film : Film) (w : Opening) (t : Table) (s : Both) (set : Choice)
+        (at : ℤ)
         → IsAllowed t s.hc → IsTied n film w s → s.order ≡ Some (order.Select set at)
         → is_known (knows w.tracks) set ≡ true }
-    ensures selected { (n : ℕ) (film : Film) (w : Opening) (t : Table) (s : Both) (set : Choice) (at : ℤ)
+    ensures selected { (n : ℕ) (film : Film) (w : Opening) (t : Table) (s : Both) (set : Choice)
+        (at : ℤ)
         → IsAllowed t s.hc → IsTied n film w s → s.order ≡ Some (order.Select set at)
         → (refusal_of w.tracks (numbers_of set) ≡ None)
         × (choice_of w.tracks (numbers_of set) ≡ set) }

@@ -2,12 +2,13 @@
 //! gives definitions over the two journals and the laws on them, which need no more of a world than
 //! what each of its steps adds to either journal.
 //!
-//! `specs/Story` says what one story is: what the demuxer was asked under the player's caller number
-//! is what the player ordered, in order and with its outcomes; each view that the player learned is
-//! what the demuxer's cache was at some moment, and these moments are in order; and the file was
-//! loaded at most once, as it was opened. The chief law is [`every_run`]: whatever steps are made,
-//! in whatever order, the two journals tell one story. `specs/Steps` has the steps, `specs/Tie` what
-//! each of them keeps, and `specs/Turns` the turns of a player's core that are composed of them.
+//! `specs/Story` says what one story is: what the demuxer was asked under the player's caller
+//! number is what the player ordered, in order and with its outcomes; each view that the player
+//! learned is what the demuxer's cache was at some moment, and these moments are in order; and the
+//! file was loaded at most once, as it was opened. The chief law is [`every_run`]: whatever steps
+//! are made, in whatever order, the two journals tell one story. `specs/Steps` has the steps,
+//! `specs/Tie` what each of them keeps, and `specs/Turns` the turns of a player's core that are
+//! composed of them.
 //!
 //! ```text
 //! the player's journal                                  the demuxer's journal

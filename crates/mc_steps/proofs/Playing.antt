@@ -12,7 +12,7 @@ use Rattle.mc_player.specs.declared.record.CoreRecord.{CoreRecord}
 use Rattle.mc_player.specs.declared.record.CoreRecord.TheVariants.{Called, Created, Destroyed, Pushed, Replied, Took, Wrote}
 use Rattle.mc_player.specs.Lives.{Table}
 use Rattle.mc_core.specs.Calls.{Answers, is_abort, ticket_of}
-use Rattle.mc_core.specs.Growth as grown
+use Rattle.mc_state.specs.Growth as grown
 use Rattle.mc_core.specs.Working as working
 use Rattle.mc_story.specs.Steps.{Adds, Works, is_effect, is_inner}
 

@@ -31,7 +31,7 @@ ghost use Rattle.mc_player.specs.declared.record.CoreRecord.{CoreRecord};
 ghost use Rattle.mc_player.specs.declared.record.CoreRecord.TheVariants.{Created, Destroyed};
 ghost use Rattle.mc_player.specs.Lives.{Table};
 ghost use Rattle.mc_core.specs.Calls.{Answers};
-ghost use Rattle.mc_core.specs.Growth as grown;
+ghost use Rattle.mc_state.specs.Growth as grown;
 ghost use Rattle.mc_core.specs.Working as working;
 ghost use Rattle.mc_story.specs.Steps.{Adds, SeekAdds, SelectAdds, SwitchAdds, Works, is_effect, is_inner, is_plain};
 ghost use Rattle.mc_steps.specs.Calls.{newest_first};

@@ -97,7 +97,7 @@ TakesJob old r new = (answer : Result Job DemuxError) × Asks old.demux answer n
 
 -- an outcome that was brought ends the job, a refusal leaves it out
 abbrev pub job_left : Option Job → Result Taken DemuxError → Option Job
-job_left job (Ok taken) = None
+job_left job (Ok x) = None
 job_left job (Err e) = job
 
 abbrev pub BringsJob : Brought → ℕ → WorldView → Result Reply WorldError → WorldView → Type 0
@@ -126,7 +126,7 @@ seek_outcome (Err (Refused NoTrack)) = Ok (outcome.Refused NoTrack)
 seek_outcome (Err e) = Err e
 
 abbrev pub select_outcome : Choice → Result Selected DemuxError → Result Outcome DemuxError
-select_outcome set (Ok selected) = Ok (outcome.Selected set)
+select_outcome set (Ok x) = Ok (outcome.Selected set)
 select_outcome set (Err e) = Err e
 
 -- the outcome is carried from now on

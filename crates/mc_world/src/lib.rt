@@ -10,9 +10,11 @@
 
 mod carrying;
 mod demuxing;
+mod law;
 mod moves;
 mod playing;
 mod world;
 
+pub use law::world_story;
 pub use moves::{Numbers, Reply, Step, WorldError};
 pub use world::World;

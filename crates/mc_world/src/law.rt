@@ -1,0 +1,30 @@
+//! Whatever steps a world makes, its two journals tell one story.
+ghost use Rattle.std.specs.Prelude.{◌≡◌, ℕ, List, [], ◌∷◌};
+ghost use Rattle.mc_packet.specs.declared.choice.Choice.{Choice};
+ghost use Rattle.mc_journal.specs.Films.{Film};
+ghost use Rattle.mc_journal.specs.declared.record.DemuxRecord.TheVariants.{Opened};
+ghost use Rattle.mc_calls.specs.Film.{StandsFor};
+ghost use Rattle.mc_calls.specs.State.{DemuxState};
+ghost use Rattle.mc_core.specs.Core.{CoreView, IsCore, history};
+ghost use Rattle.mc_props.specs.declared.facts.Facts.{Facts};
+ghost use Rattle.mc_props.specs.declared.reading.Reading.{Reading};
+ghost use Rattle.mc_story.specs.Story.{OneStory};
+ghost use Rattle.mc_steps.specs.Calls.{newest_first};
+ghost use Rattle.mc_world.specs.Story.{InStory};
+ghost use Rattle.mc_world.specs.World.{WorldView, new_world, opening};
+
+/// A world is in the story of its two journals from the start on, and where it is in it, what its
+/// demuxer was asked under the player's caller number `n` is what its core ordered, each view that
+/// the core learned is that of a front of the demuxer's journal, and the file is loaded at most once.
+pub fn world_story()
+    // A new world over a demuxer that was only opened, and a core in which nothing has happened.
+    ensures begins { (n by : ℕ) (value : ℕ → Facts → Reading) (film : Film) (set : Choice)
+        (demux : DemuxState) (core : CoreView) (path : List ℕ)
+        → demux.journal ≡ Opened by set ∷ [] → core.journal ≡ []
+        → StandsFor film demux → IsCore value core
+        → InStory n value film (new_world demux core path demux.list) }
+    // What a world in the story tells.
+    ensures story { (n : ℕ) (value : ℕ → Facts → Reading) (film : Film) (w : WorldView)
+        → InStory n value film w
+        → OneStory n film (opening w) (newest_first w.demux) (history w.core) }
+{}

@@ -1,5 +1,5 @@
 -- A new world, and what a tied one tells.
-use Rattle.std.proofs.Common.{◌≡◌, ℕ, List, [], ◌∷◌, None, refl, sym, ap, subst}
+use Rattle.std.proofs.Common.{◌≡◌, ℕ, List, [], ◌∷◌, None, refl, sym, subst}
 use Rattle.std.specs.Prelude.{reverse}
 use Rattle.mc_packet.specs.declared.choice.Choice.{Choice}
 use Rattle.mc_journal.specs.declared.record.DemuxRecord.{DemuxRecord}
@@ -12,7 +12,6 @@ use Rattle.mc_props.specs.declared.reading.Reading.{Reading}
 use Rattle.mc_calls.specs.Film.{StandsFor}
 use Rattle.mc_calls.specs.State.{DemuxState}
 use Rattle.mc_core.specs.Core.{CoreView, IsCore, history, table_in}
-use Rattle.mc_story.specs.Steps.{Both}
 use Rattle.mc_story.specs.Story.{OneStory}
 use Rattle.mc_story.specs.Tie.{IsTied}
 use Rattle.mc_story.proofs.Running.{fresh_tied, tied_story}

@@ -1,9 +1,7 @@
 -- What each step does to a world, as a step over its two journals; and that it keeps their tie.
 use Rattle.std.proofs.Common.{◌≡◌, ℕ, Bool, List, [], refl, sym, ap, subst, ◌∙◌}
-use Rattle.mc_journal.specs.declared.record.DemuxRecord.{DemuxRecord}
 use Rattle.mc_journal.specs.Films.{Film}
 use Rattle.mc_player.specs.declared.record.CoreRecord.{CoreRecord}
-use Rattle.mc_player.specs.Lives.{Table}
 use Rattle.mc_player.specs.Orders.{Opening}
 use Rattle.mc_player.specs.Rules.{IsAllowed}
 use Rattle.mc_props.specs.declared.entries.PropEntry.{PropEntry}
@@ -15,7 +13,7 @@ use Rattle.mc_calls.specs.Film.{StandsFor}
 use Rattle.mc_core.specs.Core.{IsCore, history, table_in}
 use Rattle.mc_story.specs.Runs as story
 use Rattle.mc_story.specs.Runs.Step.{Other}
-use Rattle.mc_story.specs.Steps.{Adds, Both, Demuxing, is_plain}
+use Rattle.mc_story.specs.Steps.{Adds, is_plain}
 use Rattle.mc_story.specs.Tie.{IsTied}
 use Rattle.mc_story.proofs.Stepping.{step_tied}
 use Rattle.mc_steps.specs.Calls.{newest_first}

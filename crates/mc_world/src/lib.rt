@@ -6,6 +6,9 @@
 //! of the core for each step, and says by `specs/Steps` which, and what it leaves: so what is true of
 //! every demuxer and of every core is true of those in a world. Which steps may come when is
 //! `specs/Steps.May`.
+//!
+//! Whatever steps a world makes, its two journals tell one story: [`world_story`] says which, and from
+//! where on.
 #![tactic(auto)]
 
 mod carrying;

@@ -73,6 +73,10 @@ opening_by : (path path' : List ℕ) (tracks tracks' : List Track) → path' ≡
     → ◌≡◌ {A = Opening} (record { path = path'; tracks = tracks'; set = default_choice_of tracks' }) (record { path = path; tracks = tracks; set = default_choice_of tracks })
 opening_by path path' tracks tracks' p t = rw (p, t) refl
 
+-- what is loaded stays
+pub opening_stays : (n : ℕ) (value : ℕ → Facts → Reading) (film : Film) (old new : WorldView) → Moves n value film old new → opening new ≡ opening old
+opening_stays n value film old new m = opening_by old.path new.path old.tracks new.tracks m.path m.tracks
+
 allowed_by : (value : ℕ → Facts → Reading) (entries entries' : List PropEntry) (h : List CoreRecord) → entries' ≡ entries
     → IsAllowed (record { value = value; entries = entries' }) h → IsAllowed (record { value = value; entries = entries }) h
 allowed_by value entries entries' h e a = subst (λ (es : List PropEntry). IsAllowed (record { value = value; entries = es }) h) e a
@@ -90,5 +94,5 @@ kept_by n value film old new i d c m = record {
   demux = d;
   core = c;
   tracks = m.list ∙ i.tracks ∙ sym m.tracks;
-  tied = subst (λ (o : Opening). IsTied n film o (both new)) (sym (opening_by old.path new.path old.tracks new.tracks m.path m.tracks)) (tied_on n value film old new i c m);
+  tied = subst (λ (o : Opening). IsTied n film o (both new)) (sym (opening_stays n value film old new m)) (tied_on n value film old new i c m);
 }

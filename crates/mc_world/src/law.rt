@@ -43,3 +43,16 @@ pub fn world_story()
         → InStory n value film w
         → OneStory n film (opening w) (newest_first w.demux) (history w.core) }
 {}
+
+/// After every list of steps from a new world, whatever was answered, the two journals tell one story
+/// of the film that was to be loaded.
+pub fn every_run()
+    ensures { (n by : ℕ) (value : ℕ → Facts → Reading) (film : Film) (set : Choice)
+        (demux : DemuxState) (core : CoreView) (path : List ℕ)
+        (steps : List (Step × Result Reply WorldError)) (w : WorldView)
+        → demux.journal ≡ Opened by set ∷ [] → core.journal ≡ []
+        → StandsFor film demux → IsCore value core
+        → Runs n value film steps (new_world demux core path demux.list) w
+        → OneStory n film (opening (new_world demux core path demux.list))
+        (newest_first w.demux) (history w.core) }
+{}

@@ -7,8 +7,8 @@
 //! every demuxer and of every core is true of those in a world. Which steps may come when is
 //! `specs/Steps.May`.
 //!
-//! Whatever steps a world makes, its two journals tell one story: [`world_story`] says which, and from
-//! where on.
+//! Whatever steps a world makes, its two journals tell one story: [`world_story`] has what each step
+//! keeps, and [`every_run`] what every list of steps from a new world comes to.
 #![tactic(auto)]
 
 mod carrying;
@@ -18,6 +18,6 @@ mod moves;
 mod playing;
 mod world;
 
-pub use law::world_story;
+pub use law::{every_run, world_story};
 pub use moves::{Numbers, Reply, Step, WorldError};
 pub use world::World;

@@ -20,8 +20,8 @@ ghost use Rattle.mc_world.specs.World.{WorldView, new_world, opening};
 /// A world is in the story of its two journals from the start on, and each step that `World::step`
 /// can make keeps it there, whatever it answers, where each order is carried under the player's
 /// number `n` and the driver seeks and selects under others. Where a world is in it, what its
-/// demuxer was asked under `n` is what its core ordered, each view that the core learned is that of
-/// a front of the demuxer's journal, in order, and the file is loaded at most once, as it was opened.
+/// demuxer was asked under `n` is what its core ordered, each view that the core learned is that
+/// of a front of the demuxer's journal, in order, and the file is loaded at most once, as opened.
 pub fn world_story()
     // A new world over a demuxer that was only opened, and a core in which nothing has happened.
     ensures begins { (n by : ℕ) (value : ℕ → Facts → Reading) (film : Film) (set : Choice)
@@ -29,7 +29,7 @@ pub fn world_story()
         → demux.journal ≡ Opened by set ∷ [] → core.journal ≡ []
         → StandsFor film demux → IsCore value core
         → InStory n value film (new_world demux core path demux.list) }
-    // A step: the demuxer stands for its film behind it, and the core is one, as every world's is.
+    // A step, behind which the demuxer stands for its film and the core is one, as every world's.
     ensures step { (n : ℕ) (value : ℕ → Facts → Reading) (film : Film) (step : Step)
         (old new : WorldView) (r : Result Reply WorldError)
         → InStory n value film old → IsUnder n step → May old step → Stepped value step old r new
@@ -44,8 +44,9 @@ pub fn world_story()
         → OneStory n film (opening w) (newest_first w.demux) (history w.core) }
 {}
 
-/// After every list of steps from a new world, whatever was answered, the two journals tell one story
-/// of the film that was to be loaded.
+/// After every list of steps from a new world, whatever was answered, the two journals tell one
+/// story of the film that was to be loaded: where each order was carried under `n`, and the driver
+/// sought and selected under others.
 pub fn every_run()
     ensures { (n by : ℕ) (value : ℕ → Facts → Reading) (film : Film) (set : Choice)
         (demux : DemuxState) (core : CoreView) (path : List ℕ)

@@ -7,8 +7,8 @@
 //! every demuxer and of every core is true of those in a world. Which steps may come when is
 //! `specs/Steps.May`.
 //!
-//! Whatever steps a world makes, its two journals tell one story: [`world_story`] has what each step
-//! keeps, and [`every_run`] what every list of steps from a new world comes to.
+//! Whatever steps a world makes, its two journals tell one story: [`world_story`] has what each
+//! step keeps, and [`every_run`] what every list of steps from a new world comes to.
 #![tactic(auto)]
 
 mod carrying;

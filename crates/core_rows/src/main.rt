@@ -1,6 +1,6 @@
 //! Makes the calls of `mc_core` that its rows name, on one core after another over the standard
-//! properties of a player, and prints what each answered. The rows stand in `stdin`, and what they must answer in
-//! `stdout`.
+//! properties of a player, and prints what each answered. The rows stand in `stdin`, and what they
+//! must answer in `stdout`.
 #![tactic(auto)]
 
 ghost use Rattle.std.specs.Prelude.{ℕ, ◌<◌};

@@ -17,3 +17,5 @@ for threads in 1 2 4; do
     printf '| %s | %s | %s |\n' "$threads" "$(rate turn "$threads" "$each")" "$(rate mutex "$threads" "$each")"
 done
 printf '\nLooks a second beside a running poster: %s\n' "$(rate look "$looks")"
+printf '\nCalls of a demuxer behind the lock a second, of one caller and of two: %s and %s\n' \
+    "$(rate demux 1 "$turns")" "$(rate demux 2 $((turns / 2)))"

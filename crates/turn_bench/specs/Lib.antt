@@ -5,3 +5,4 @@ pub mod Settings
 pub mod Cells
 pub mod Boards
 pub mod Handed
+pub mod Demuxes

@@ -3,6 +3,7 @@
 #![tactic(auto)]
 
 mod cell;
+mod demux_cell;
 mod entry;
 mod handed;
 mod log;
@@ -26,6 +27,7 @@ fn show<R: Threads + Wait + Sync + Print>(rt: &R, alloc: Global) -> io::Result<(
     shown::team(rt, alloc)?;
     shown::writers(rt, alloc)?;
     shown::alone(rt, alloc)?;
+    shown::demuxes(rt, alloc)?;
     shown::board(rt, alloc)?;
     shown::looks(rt, alloc)
 }
@@ -39,7 +41,7 @@ fn main(rt: HostRuntime) -> io::Result<()> {
         return show(&rt, rt.alloc());
     }
     let Some(task) = timing::task_of(words.as_slice()) else {
-        return println!(rt; "turn_bench [turn THREADS COUNT | mutex THREADS COUNT | look COUNT]");
+        return println!(rt; "turn_bench [turn|mutex|demux THREADS COUNT | look COUNT]");
     };
     let (done, nanoseconds) = timing::timed(&rt, rt.alloc(), task)?;
     let rate = timing::rate(done, nanoseconds);

@@ -1,5 +1,6 @@
 // What the program prints of the lock and of the board: the same at every run.
 use crate::cell::place_in_film;
+use crate::demux_cell;
 use crate::log::Log;
 use crate::names::Unnamed;
 use crate::settings::set_alone;
@@ -84,4 +85,11 @@ pub fn looks<R: Wait + Print>(rt: &R, alloc: Global) -> io::Result<()> {
     show_status(rt, one)?;
     show_status(rt, two)?;
     show_status(rt, three)
+}
+
+/// A demuxer under one caller, and under two beside each other: each call leaves a record.
+pub fn demuxes<R: Threads + Wait + Sync + Print>(rt: &R, alloc: Global) -> io::Result<()> {
+    let alone = demux_cell::alone(rt, alloc, 1000)?.length();
+    let both = demux_cell::both(rt, alloc, 1000)?.length();
+    println!(rt; "demuxers of one caller and of two: {alone} and {both} records")
 }

@@ -1,6 +1,6 @@
 // What the words of the command line ask to be timed.
 use crate::team::{Team, fill};
-use crate::{mutexes, watch};
+use crate::{demux_cell, mutexes, watch};
 use mc_turn::Kept;
 use std::alloc::Global;
 use std::io;
@@ -17,11 +17,20 @@ const MOST_POSTS: u64 = 100_000_000;
 pub enum Task {
     Turns(Team, u64),
     Mutexes(Team, u64),
+    Shows(Callers, u64),
     Looks(u64),
 }
 
+/// How many callers a demuxer behind a lock has.
+#[derive(Clone, Copy)]
+pub enum Callers {
+    One,
+    Two,
+}
+
 /// The task that the words name: `turn THREADS COUNT` and `mutex THREADS COUNT`, where each of
-/// 1, 2, 4 or 8 threads takes COUNT turns, or `look COUNT`.
+/// 1, 2, 4 or 8 threads takes COUNT turns, `demux THREADS COUNT`, where each of 1 or 2 calls a
+/// demuxer so often, or `look COUNT`.
 pub fn task_of(words: &[String]) -> Option<Task> {
     match words {
         [what, threads, count] if what.as_str() == "turn" => {
@@ -30,7 +39,18 @@ pub fn task_of(words: &[String]) -> Option<Task> {
         [what, threads, count] if what.as_str() == "mutex" => {
             Some(Task::Mutexes(team_of(threads.as_str())?, count.parse().ok()?))
         }
+        [what, threads, count] if what.as_str() == "demux" => {
+            Some(Task::Shows(callers_of(threads.as_str())?, count.parse().ok()?))
+        }
         [what, count] if what.as_str() == "look" => Some(Task::Looks(count.parse().ok()?)),
+        _ => None,
+    }
+}
+
+fn callers_of(threads: &str) -> Option<Callers> {
+    match threads {
+        "1" => Some(Callers::One),
+        "2" => Some(Callers::Two),
         _ => None,
     }
 }
@@ -55,6 +75,8 @@ pub fn timed<R: Threads + Wait + Sync + Clock>(
     let done = match task {
         Task::Turns(team, count) => fill(rt, alloc, team, count)?.0.length(),
         Task::Mutexes(team, count) => mutexes::fill(rt, alloc, team, count).0.length(),
+        Task::Shows(Callers::One, count) => demux_cell::alone(rt, alloc, count)?.length(),
+        Task::Shows(Callers::Two, count) => demux_cell::both(rt, alloc, count)?.length(),
         Task::Looks(count) => {
             watch::beside(rt, alloc, MOST_POSTS, count, true)?;
             count

@@ -8,7 +8,7 @@ ghost use Rattle.turn_bench.specs.Demuxes.{Any};
 
 use mc_demux::Demux;
 use mc_journal::DemuxRecord;
-use mc_packet::{Choice, Limits};
+use mc_packet::{Choice, Dir, Limits};
 use mc_tracks::TrackList;
 use mc_turn::{Bell, Kept, NoMemory, Pass, Turn};
 use std::alloc::{AllocError, Global};
@@ -35,11 +35,11 @@ impl Kept for DemuxCell {
 }
 
 impl DemuxCell {
-    // The cache is shown, and stands in the journal.
-    fn show(&mut self, by: u32) -> bool
+    // A seek is asked for. It is refused, since no track is selected, and that stands in the journal.
+    fn seek(&mut self, by: u32) -> bool
         ensures grows { Grew by_of by self.old.demux.journal self.new.demux.journal }
     {
-        self.demux.show(by).is_ok()
+        self.demux.seek(by, 0, Dir::Back).is_ok()
     }
 }
 
@@ -77,7 +77,7 @@ fn work<R: Wait>(
 {
     for item in 0..count {
         let mut cell = turn.enter(rt, &mut pass, bell);
-        let _done = cell.show(by);
+        let _sought = cell.seek(by);
         turn.leave(&mut pass, cell);
         bell.ring(rt);
     }

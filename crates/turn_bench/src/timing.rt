@@ -17,7 +17,7 @@ const MOST_POSTS: u64 = 100_000_000;
 pub enum Task {
     Turns(Team, u64),
     Mutexes(Team, u64),
-    Shows(Callers, u64),
+    Seeks(Callers, u64),
     Looks(u64),
 }
 
@@ -40,7 +40,7 @@ pub fn task_of(words: &[String]) -> Option<Task> {
             Some(Task::Mutexes(team_of(threads.as_str())?, count.parse().ok()?))
         }
         [what, threads, count] if what.as_str() == "demux" => {
-            Some(Task::Shows(callers_of(threads.as_str())?, count.parse().ok()?))
+            Some(Task::Seeks(callers_of(threads.as_str())?, count.parse().ok()?))
         }
         [what, count] if what.as_str() == "look" => Some(Task::Looks(count.parse().ok()?)),
         _ => None,
@@ -75,8 +75,8 @@ pub fn timed<R: Threads + Wait + Sync + Clock>(
     let done = match task {
         Task::Turns(team, count) => fill(rt, alloc, team, count)?.0.length(),
         Task::Mutexes(team, count) => mutexes::fill(rt, alloc, team, count).0.length(),
-        Task::Shows(Callers::One, count) => demux_cell::alone(rt, alloc, count)?.length(),
-        Task::Shows(Callers::Two, count) => demux_cell::both(rt, alloc, count)?.length(),
+        Task::Seeks(Callers::One, count) => demux_cell::alone(rt, alloc, count)?.length(),
+        Task::Seeks(Callers::Two, count) => demux_cell::both(rt, alloc, count)?.length(),
         Task::Looks(count) => {
             watch::beside(rt, alloc, MOST_POSTS, count, true)?;
             count

@@ -17,29 +17,14 @@ ghost use Rattle.mc_world.specs.Errors.{demux_error};
 use crate::demuxing::still;
 use crate::moves::{Reply, WorldError};
 use crate::world::World;
+use mc_deeds::copy_outcome;
 use mc_demux::{Demux, DemuxError, Selected};
 use mc_journal::Sought;
-use mc_packet::{Choice, Dir, NoMemory, Why};
+use mc_packet::{Choice, Dir, Why};
 use mc_player::{Order, Outcome};
 use mc_props::Reads;
 use mc_props::meanings::Meaning;
 use mc_tracks::default_choice;
-
-/// An equal outcome.
-fn copy_outcome(outcome: &Outcome) -> Result<Outcome, NoMemory>
-    ensures { IfOk result (λ x. x ≡ outcome.now) }
-{
-    Ok(match outcome {
-        Outcome::Loaded { path, tracks, set } => Outcome::Loaded {
-            path: path.copy()?,
-            tracks: tracks.copy()?,
-            set: *set,
-        },
-        Outcome::Sought => Outcome::Sought,
-        Outcome::Selected { set } => Outcome::Selected { set: *set },
-        Outcome::Refused(why) => Outcome::Refused(*why),
-    })
-}
 
 // What a seek came to that was carried.
 fn seek_outcome(answer: Result<Sought, DemuxError>) -> Result<Outcome, DemuxError>

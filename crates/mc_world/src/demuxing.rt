@@ -18,19 +18,9 @@ use crate::moves::{Reply, WorldError};
 use crate::world::World;
 use mc_demux::{Demux, Job, Reading};
 use mc_jobs::{Brought, bring, number_of};
-use mc_packet::{Choice, Dir, Kind, TrackNo};
+use mc_packet::{Dir, Kind, TrackNo};
 use mc_props::Reads;
 use mc_props::meanings::Meaning;
-
-fn track_of(set: Choice, kind: Kind) -> Option<TrackNo>
-    ensures { result ≡ track_of set kind }
-{
-    match kind {
-        Kind::Video => set.video,
-        Kind::Audio => set.audio,
-        Kind::Sub => set.sub,
-    }
-}
 
 // Of a demuxer as it stands.
 pub(crate) fn still(demux: &Demux)
@@ -143,7 +133,7 @@ impl<F: Reads<M>, M: Meaning> World<F, M> {
         ensures marks { AreAmong (marks_of self.old.demux.cache) self.new.demux.cache }
         ensures demux { IsDemux self.new.demux }
     {
-        let track = track_of(self.demux.selection(), kind);
+        let track = self.demux.selection().of(kind);
         self.read_track(by, track)
     }
 }

@@ -1,4 +1,5 @@
 pub mod Element
 pub mod Ids
 pub mod Laws
+pub mod Whole
 pub mod Written

@@ -6,12 +6,14 @@
 pub mod ids;
 mod law;
 mod read;
+mod whole;
 mod write;
 
 pub use law::{fitting_integers, written_parts};
 pub use read::{
     Coded, EbmlError, Head, Size, read_coded, read_head, read_id, read_size, read_text, read_uint,
 };
+pub use whole::{WholeElement, read_element};
 pub use write::{
     NoMemory, coded_len, head_len, uint_len, write_coded, write_element, write_head, write_text,
     write_uint,

@@ -8,7 +8,7 @@ use Rattle.mc_ebml.specs.Element.{uint_of}
 use Rattle.mc_ebml.specs.Laws.{IntegersFit}
 use Rattle.mc_ebml.specs.Ids.{DEFAULT_DURATION, TRACK_ENTRY, TRACK_NUMBER, TRACK_TYPE, TRACK_UID}
 use Rattle.mc_packet.specs.declared.choice.Kind.{Kind}
-use Rattle.mc_tracks.specs.declared.children.Child.{Child}
+use Rattle.mc_ebml.specs.declared.whole.WholeElement.{WholeElement}
 use Rattle.mc_tracks.specs.declared.children.Master.TheVariants.{Tracks, TrackEntry}
 use Rattle.mc_tracks.specs.declared.refused.Refused.{Refused}
 use Rattle.mc_tracks.specs.declared.refused.Refused.TheVariants.{NoNumber, TwiceNumber, TooMany}
@@ -34,7 +34,7 @@ cond_fits true m n low fits = low
 cond_fits false m n low fits = fits
 
 module _ (fit : IntegersFit) where
-  integer_fits : (octets : List ℕ) (otherwise : ℕ) (c : Option Child) → AreOctets octets → otherwise < 2 ^ 64 → integer octets otherwise c < 2 ^ 64
+  integer_fits : (octets : List ℕ) (otherwise : ℕ) (c : Option WholeElement) → AreOctets octets → otherwise < 2 ^ 64 → integer octets otherwise c < 2 ^ 64
   integer_fits octets otherwise None are low = low
   integer_fits octets otherwise (Some c) are low =
       cond_fits (c.at == c.stop) otherwise _ low
@@ -47,14 +47,14 @@ module _ (fit : IntegersFit) where
       by true = tt
       by false = low
 
-  track_fits : (body : List ℕ) (cs : List Child) (n : ℕ) (kind : Kind) → AreOctets body → n < 2 ^ 64 → HasNumbers (track body cs n kind)
+  track_fits : (body : List ℕ) (cs : List WholeElement) (n : ℕ) (kind : Kind) → AreOctets body → n < 2 ^ 64 → HasNumbers (track body cs n kind)
   track_fits body cs n kind are low = record {
     number = low;
     uid = integer_fits body 0 (first TRACK_UID cs) are (omega arith);
     duration = lasting (integer body 0 (first DEFAULT_DURATION cs)) (integer_fits body 0 (first DEFAULT_DURATION cs) are (omega arith));
   }
 
-  of_kind : (body : List ℕ) (cs : List Child) (n : ℕ) (found : Option Kind) (t : Track) → AreOctets body → n < 2 ^ 64
+  of_kind : (body : List ℕ) (cs : List WholeElement) (n : ℕ) (found : Option Kind) (t : Track) → AreOctets body → n < 2 ^ 64
       → ◌≡◌ {A = Result (Option Track) Refused} (Ok (option_map (λ kind. track body cs n kind) found)) (Ok (Some t)) → HasNumbers t
   of_kind body cs n None t are low e = absurd (cc)
   of_kind body cs n (Some kind) t are low e =
@@ -81,7 +81,7 @@ module _ (fit : IntegersFit) where
       let same : tracks ++ t ∷ [] ≡ more = cc in
       subst (λ ts. All HasNumbers ts) same (All-push HasNumbers tracks t are (each t refl))
 
-  after_child : (body : List ℕ) (at : ℕ) (tracks more : List Track) (c : Child) → AreOctets body → All HasNumbers tracks
+  after_child : (body : List ℕ) (at : ℕ) (tracks more : List Track) (c : WholeElement) → AreOctets body → All HasNumbers tracks
       → with_child body at tracks c ≡ Ok more → All HasNumbers more
   after_child body at tracks more c octets are e = by (c.id == TRACK_ENTRY) e
     where
@@ -92,7 +92,7 @@ module _ (fit : IntegersFit) where
           (entry.1 ∙ ap (λ (u : Option Track). Ok u) same)) entry.2
       by false e = let same : tracks ≡ more = cc in subst (λ ts. All HasNumbers ts) same are
 
-  after_children : (body : List ℕ) (at : ℕ) (cs : List Child) (tracks more : List Track) → AreOctets body → All HasNumbers tracks
+  after_children : (body : List ℕ) (at : ℕ) (cs : List WholeElement) (tracks more : List Track) → AreOctets body → All HasNumbers tracks
       → listed body at tracks cs ≡ Ok more → All HasNumbers more
   after_children body at [] tracks more octets are e = let same : tracks ≡ more = cc in subst (λ ts. All HasNumbers ts) same are
   after_children body at (c ∷ cs) tracks more octets are e =

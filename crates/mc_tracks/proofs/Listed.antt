@@ -1,6 +1,6 @@
 -- The tracks of a body, child by child.
 use Rattle.std.proofs.Common.{◌≡◌, ◌≢◌, ℕ, ◌+◌, ◌-◌, ◌<◌, ◌≤◌, List, length, Some, None, Result, Ok, Err, sym, ap, ◌∙◌}
-use Rattle.mc_tracks.specs.declared.children.Child.{Child}
+use Rattle.mc_ebml.specs.declared.whole.WholeElement.{WholeElement}
 use Rattle.mc_tracks.specs.declared.children.Master.TheVariants.{Tracks}
 use Rattle.mc_tracks.specs.declared.refused.Refused.{Refused}
 use Rattle.mc_tracks.specs.declared.refused.Refused.TheVariants.{Broken}
@@ -23,7 +23,7 @@ module _ (body : List ℕ) (at : ℕ) (tracks : List Track) (i place : ℕ) (tot
   pub breaks : i < length body → place ≢ length body → None ≡ child_at Tracks body place → total ≡ Err (Broken (at + place))
   breaks lt ne child = sym so_far ∙ ap (tracks_among body at tracks) (walk.breaks (length body) i place Tracks body lt ne child)
 
-  module _ (c : Child) (lt : i < length body) (ne : place ≢ length body) (child : Some c ≡ child_at Tracks body place) where
+  module _ (c : WholeElement) (lt : i < length body) (ne : place ≢ length body) (child : Some c ≡ child_at Tracks body place) where
     behind : Children
     behind = children (length body - (i + 1)) Tracks body c.stop
 

@@ -10,7 +10,7 @@ use Rattle.std.proofs.lemmas.List.Sums.{fails_before_first}
 use Rattle.std.proofs.lemmas.Bool.{eqb-false}
 use Rattle.mc_ebml.specs.declared.read.EbmlError.TheVariants.{BadText}
 use Rattle.mc_ebml.specs.Element.{text_of}
-use Rattle.mc_tracks.specs.declared.children.Child.{Child}
+use Rattle.mc_ebml.specs.declared.whole.WholeElement.{WholeElement}
 use Rattle.mc_tracks.specs.Header.{text, body_of}
 use Rattle.mc_tracks.specs.TrackList.{IsPlainText}
 
@@ -51,13 +51,13 @@ of_body : (body : List ℕ) → length body ≤ 65536 → IsPlainText (result_un
 unfolding text_of
 of_body body few = one_of (is_utf8 (before_first (λ b. b == 0) body)) (before_first (λ b. b == 0) body) (before body few)
 
-within : (octets : List ℕ) (c : Child) (b : Bool) → nat_lt 65536 (c.stop - c.at) ≡ b
+within : (octets : List ℕ) (c : WholeElement) (b : Bool) → nat_lt 65536 (c.stop - c.at) ≡ b
     → IsPlainText (cond b [] (result_unwrap_or (text_of (body_of octets c)) []))
 within octets c true e = nothing
 within octets c false e =
     let few : c.stop - c.at ≤ 65536 = ltb-false 65536 (c.stop - c.at) e in
     of_body (body_of octets c) (omega (arith, length-take (c.stop - c.at) (drop c.at octets)))
 
-pub is_plain : (octets otherwise : List ℕ) (found : Option Child) → IsPlainText otherwise → IsPlainText (text octets otherwise found)
+pub is_plain : (octets otherwise : List ℕ) (found : Option WholeElement) → IsPlainText otherwise → IsPlainText (text octets otherwise found)
 is_plain octets otherwise None plain = plain
 is_plain octets otherwise (Some c) plain = within octets c (nat_lt 65536 (c.stop - c.at)) refl

@@ -8,7 +8,7 @@ use Rattle.std.proofs.lemmas.List.{map-append, length-append}
 use Rattle.std.proofs.lemmas.List.Elements.{All-push}
 use Rattle.std.proofs.lemmas.Map.Keys.{IsDistinct-push}
 use Rattle.mc_packet.specs.declared.choice.Kind.{Kind}
-use Rattle.mc_tracks.specs.declared.children.Child.{Child}
+use Rattle.mc_ebml.specs.declared.whole.WholeElement.{WholeElement}
 use Rattle.mc_tracks.specs.declared.children.Master.TheVariants.{Tracks, TrackEntry}
 use Rattle.mc_tracks.specs.declared.refused.Refused.{Refused}
 use Rattle.mc_tracks.specs.declared.refused.Refused.TheVariants.{NoNumber, TwiceNumber, TooMany}
@@ -39,7 +39,7 @@ lasts n = by (n == 0) refl
     by true e = tt
     by false e = let differs : n ≢ 0 = eqb-false n 0 e in omega (arith, differs)
 
-is_listed : (body : List ℕ) (cs : List Child) (n : ℕ) (kind : Kind) → 0 < n → IsListed (track body cs n kind)
+is_listed : (body : List ℕ) (cs : List WholeElement) (n : ℕ) (kind : Kind) → 0 < n → IsListed (track body cs n kind)
 is_listed body cs n kind positive = record {
   positive = positive;
   codec = is_plain body [] (first CODEC_ID cs) nothing;
@@ -55,7 +55,7 @@ above_zero n m e =
     let differs : n ≢ 0 = eqb-false n 0 is.0 in
     omega (arith, differs, same)
 
-of_kind : (body : List ℕ) (cs : List Child) (n : ℕ) (found : Option Kind) (t : Track) → 0 < n
+of_kind : (body : List ℕ) (cs : List WholeElement) (n : ℕ) (found : Option Kind) (t : Track) → 0 < n
     → ◌≡◌ {A = Result (Option Track) Refused} (Ok (option_map (λ kind. track body cs n kind) found)) (Ok (Some t)) → IsListed t
 of_kind body cs n None t positive e = absurd (cc)
 of_kind body cs n (Some kind) t positive e =
@@ -100,7 +100,7 @@ one_more tracks more (Some t) is each e =
       each = All-push IsListed tracks t is.each (each t refl);
     })
 
-after_child : (body : List ℕ) (at : ℕ) (tracks more : List Track) (c : Child) → IsTrackList tracks → with_child body at tracks c ≡ Ok more → IsTrackList more
+after_child : (body : List ℕ) (at : ℕ) (tracks more : List Track) (c : WholeElement) → IsTrackList tracks → with_child body at tracks c ≡ Ok more → IsTrackList more
 after_child body at tracks more c is e = by (c.id == TRACK_ENTRY) e
   where
     by : (b : Bool) → cond b (entry_of (body_of body c) (at + c.at) >>= λ t. with_track tracks t) (Ok tracks) ≡ Ok more → IsTrackList more
@@ -109,7 +109,7 @@ after_child body at tracks more c is e = by (c.id == TRACK_ENTRY) e
         one_more tracks more entry.0 is (λ t same. entry_is_listed (body_of body c) (at + c.at) t (entry.1 ∙ ap (λ (u : Option Track). Ok u) same)) entry.2
     by false e = let same : tracks ≡ more = cc in subst IsTrackList same is
 
-after_children : (body : List ℕ) (at : ℕ) (cs : List Child) (tracks more : List Track) → IsTrackList tracks → listed body at tracks cs ≡ Ok more → IsTrackList more
+after_children : (body : List ℕ) (at : ℕ) (cs : List WholeElement) (tracks more : List Track) → IsTrackList tracks → listed body at tracks cs ≡ Ok more → IsTrackList more
 after_children body at [] tracks more is e = let same : tracks ≡ more = cc in subst IsTrackList same is
 after_children body at (c ∷ cs) tracks more is e =
     let one = bind_ok (with_child body at tracks c) (λ ts. listed body at ts cs) more e in

@@ -6,23 +6,24 @@ use Rattle.std.specs.Cmp.Lexicographic.{pointwise}
 use Rattle.mc_ebml.specs.Element.{uint_of, text_of}
 use Rattle.mc_packet.specs.declared.choice.Kind.{Kind}
 use Rattle.mc_packet.specs.declared.choice.Kind.TheVariants.{Video, Audio, Sub}
-use Rattle.mc_tracks.specs.declared.children.Child.{Child}
+use Rattle.mc_ebml.specs.declared.whole.WholeElement.{WholeElement}
 use Rattle.mc_tracks.specs.declared.children.Master.TheVariants.{EbmlHeader, Info, Tracks, TrackEntry}
 use Rattle.mc_tracks.specs.declared.refused.Refused.{Refused}
 use Rattle.mc_tracks.specs.declared.refused.Refused.TheVariants.{NotEbml, Version, DocType, Broken, NoNumber, TwiceNumber, ScaleZero, TooMany}
 use Rattle.mc_tracks.specs.declared.track.Track.{Track}
 use Rattle.mc_ebml.specs.Ids.{EBML_HEADER, EBML_READ_VERSION, EBML_MAX_ID_LENGTH, EBML_MAX_SIZE_LENGTH, DOC_TYPE, DOC_TYPE_READ_VERSION, TIMESTAMP_SCALE, TRACK_ENTRY, TRACK_NUMBER, TRACK_UID, TRACK_TYPE, CODEC_ID, NAME, LANGUAGE, FLAG_DEFAULT, DEFAULT_DURATION, CONTENT_ENCODINGS}
-use Rattle.mc_tracks.specs.Children.{Children, children_of, element_at, first}
+use Rattle.mc_ebml.specs.Whole.{element_at}
+use Rattle.mc_tracks.specs.Children.{Children, children_of, first}
 use Rattle.mc_tracks.specs.Answer.{◌>>=◌}
 use Rattle.mc_tracks.specs.TrackList.{numbered, IsTrackList, HasNumbers}
 
 -- ---- what a child stands for
 
-abbrev pub body_of : List ℕ → Child → List ℕ
+abbrev pub body_of : List ℕ → WholeElement → List ℕ
 body_of octets c = slice_range octets c.at c.stop
 
 -- an unsigned integer, or its default where it is missing or empty
-abbrev pub integer : List ℕ → ℕ → Option Child → ℕ
+abbrev pub integer : List ℕ → ℕ → Option WholeElement → ℕ
 integer octets otherwise None = otherwise
 integer octets otherwise (Some c) =
     if c.at == c.stop then otherwise else result_unwrap_or (uint_of (body_of octets c)) otherwise
@@ -32,7 +33,7 @@ abbrev pub entry_integer : List ℕ → ℕ → ℕ → ℕ
 entry_integer body id otherwise = integer body otherwise (first id (children_of TrackEntry body).whole)
 
 -- a text, or its default where it is missing; one that is not UTF-8 or longer than 65,536 octets is taken as empty
-abbrev pub text : List ℕ → List ℕ → Option Child → List ℕ
+abbrev pub text : List ℕ → List ℕ → Option WholeElement → List ℕ
 text octets otherwise None = otherwise
 text octets otherwise (Some c) =
     if nat_lt 65536 (c.stop - c.at) then [] else result_unwrap_or (text_of (body_of octets c)) []
@@ -45,7 +46,7 @@ unless_broken at (Some place) = Err (Broken (at + place))
 -- ---- the EBML header
 
 -- it asks for more than version 1 of EBML, IDs of 4 octets, sizes of 8 and version 4 of Matroska
-abbrev pub asks_more : List ℕ → List Child → Bool
+abbrev pub asks_more : List ℕ → List WholeElement → Bool
 asks_more body cs = nat_lt 1 (integer body 1 (first EBML_READ_VERSION cs))
     || nat_lt 4 (integer body 4 (first EBML_MAX_ID_LENGTH cs))
     || nat_lt 8 (integer body 8 (first EBML_MAX_SIZE_LENGTH cs))
@@ -59,7 +60,7 @@ abbrev pub header_checked : List ℕ → Children → Result (Unit {0}) Refused
 header_checked body cs = if is_some cs.broken then Err NotEbml else (if asks_more body cs.whole then Err Version
     else (if is_matroska (text body [] (first DOC_TYPE cs.whole)) then Ok tt else Err DocType))
 
-abbrev pub as_header : Option Child → Result Child Refused
+abbrev pub as_header : Option WholeElement → Result WholeElement Refused
 as_header None = Err NotEbml
 as_header (Some c) = if c.id == EBML_HEADER then Ok c else Err NotEbml
 
@@ -95,7 +96,7 @@ positive_number n = if n == 0 then Err NoNumber else Ok n
 abbrev pub duration : ℕ → Option ℕ
 duration n = if n == 0 then None else Some n
 
-abbrev pub track : List ℕ → List Child → ℕ → Kind → Track
+abbrev pub track : List ℕ → List WholeElement → ℕ → Kind → Track
 track body cs n kind = record {
   no = n;
   uid = integer body 0 (first TRACK_UID cs);
@@ -122,12 +123,12 @@ with_track tracks None = Ok tracks
 with_track tracks (Some t) = if is_some (numbered t.no tracks) then Err TwiceNumber
     else (if nat_le 64 (length tracks) then Err TooMany else Ok (tracks ++ t ∷ []))
 
-abbrev pub with_child : List ℕ → ℕ → List Track → Child → Result (List Track) Refused
+abbrev pub with_child : List ℕ → ℕ → List Track → WholeElement → Result (List Track) Refused
 with_child body at tracks c =
     if c.id == TRACK_ENTRY then (entry_of (body_of body c) (at + c.at) >>= λ t. with_track tracks t) else Ok tracks
 
 -- the tracks so far and those of more children, child by child
-abbrev pub listed : List ℕ → ℕ → List Track → List Child → Result (List Track) Refused
+abbrev pub listed : List ℕ → ℕ → List Track → List WholeElement → Result (List Track) Refused
 listed body at tracks [] = Ok tracks
 listed body at tracks (c ∷ cs) = with_child body at tracks c >>= λ more. listed body at more cs
 

@@ -1,7 +1,8 @@
 ghost use Rattle.std.specs.Prelude.{◌≡◌, ◌<◌, ◌≤◌, length, IfSome};
-ghost use Rattle.mc_tracks.specs.Children.{element_at, is_integer, child_at, children_of, first, LiesIn};
+ghost use Rattle.mc_ebml.specs.Whole.{LiesIn};
+ghost use Rattle.mc_tracks.specs.Children.{is_integer, child_at, children_of, first};
 
-use mc_ebml::{Size, ids, read_head};
+use mc_ebml::{WholeElement, ids, read_element};
 
 /// An element whose children are read.
 #[derive(Clone, Copy, Debug, PartialEq, Eq)]
@@ -49,49 +50,10 @@ fn is_entry_integer(id: u32) -> bool
         || id == ids::DEFAULT_DURATION
 }
 
-/// An element that stands whole in the octets that are read. Its offsets are counted in those.
-#[derive(Clone, Copy, Debug, PartialEq, Eq)]
-pub struct Child {
-    /// Its ID with the marker bit.
-    pub id: u32,
-    /// The offset at which it begins.
-    pub place: usize,
-    /// The offset at which its body begins.
-    pub at: usize,
-    /// The offset at which its body ends.
-    pub stop: usize,
-}
-
-/// The element at offset `place`, where its head can be read, its size is known and it ends within
-/// the octets; else `None`.
-#[tactic(auto, unfolding(crate::specs::Children::element_at))]
-pub fn read_element(octets: &[u8], place: usize) -> Option<Child>
-    requires { place ≤ length octets.now }
-    ensures value { result ≡ element_at octets.now place }
-    ensures lies { IfSome result (λ c. LiesIn (length octets.now) c) }
-    ensures begins { IfSome result (λ c. c.place ≡ place) }
-{
-    let Ok(head) = read_head(octets, place) else {
-        return None;
-    };
-    let Size::Known(size) = head.size else {
-        return None;
-    };
-    if size > (octets.len() - head.body) as u64 {
-        return None;
-    }
-    Some(Child {
-        id: head.id,
-        place,
-        at: head.body,
-        stop: head.body + size as usize,
-    })
-}
-
 /// The child at offset `place` of a body: it stands whole there, and is no integer of more than 8
 /// octets; else `None`.
 #[tactic(auto, unfolding(crate::specs::Children::child_at))]
-pub fn read_child(master: Master, body: &[u8], place: usize) -> Option<Child>
+pub fn read_child(master: Master, body: &[u8], place: usize) -> Option<WholeElement>
     requires { place ≤ length body.now }
     ensures value { result ≡ child_at master body.now place }
     ensures lies { IfSome result (λ c. LiesIn (length body.now) c) }
@@ -124,7 +86,7 @@ pub fn find_broken(master: Master, body: &[u8]) -> Option<usize>
 }
 
 /// The first child of an ID, among those before the first that cannot be read.
-pub fn find_child(master: Master, body: &[u8], id: u32) -> Option<Child>
+pub fn find_child(master: Master, body: &[u8], id: u32) -> Option<WholeElement>
     ensures value { result ≡ first id (children_of master body.now).whole }
     ensures lies { IfSome result (λ c. LiesIn (length body.now) c) }
 {

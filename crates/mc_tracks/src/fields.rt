@@ -1,10 +1,11 @@
 ghost use Rattle.std.specs.Prelude.{◌≡◌, ◌+◌, ◌<◌, ◌^◌, length, IfSome};
-ghost use Rattle.mc_tracks.specs.Children.{children_of, first, LiesIn};
+ghost use Rattle.mc_ebml.specs.Whole.{LiesIn};
+ghost use Rattle.mc_tracks.specs.Children.{children_of, first};
 ghost use Rattle.mc_tracks.specs.Header.{body_of, integer, text, unless_broken};
 
-use crate::children::{Child, Master, find_broken, find_child};
+use crate::children::{Master, find_broken, find_child};
 use crate::refused::Refused;
-use mc_ebml::{read_text, read_uint};
+use mc_ebml::{WholeElement, read_text, read_uint};
 
 // The longest text that is kept, in octets of its body.
 const LONGEST_TEXT: usize = 65_536;
@@ -21,7 +22,7 @@ pub fn check_children(master: Master, body: &[u8], at: u64) -> Result<(), Refuse
 }
 
 // The body of a child.
-pub fn body_of(octets: &[u8], child: Child) -> &[u8]
+pub fn body_of(octets: &[u8], child: WholeElement) -> &[u8]
     requires { LiesIn (length octets.now) child }
     ensures { result.now ≡ body_of octets.now child }
 {
@@ -35,7 +36,7 @@ pub fn find_integer(master: Master, body: &[u8], id: u32, otherwise: u64) -> u64
     integer_in(body, find_child(master, body, id), otherwise)
 }
 
-fn integer_in(body: &[u8], child: Option<Child>, otherwise: u64) -> u64
+fn integer_in(body: &[u8], child: Option<WholeElement>, otherwise: u64) -> u64
     requires { IfSome child (λ c. LiesIn (length body.now) c) }
     ensures { result ≡ integer body.now otherwise child }
 {
@@ -56,7 +57,7 @@ pub fn find_text<'a>(master: Master, body: &'a [u8], id: u32, otherwise: &'stati
     text_in(body, find_child(master, body, id), otherwise)
 }
 
-fn text_in<'a>(body: &'a [u8], child: Option<Child>, otherwise: &'static str) -> &'a str
+fn text_in<'a>(body: &'a [u8], child: Option<WholeElement>, otherwise: &'static str) -> &'a str
     requires { IfSome child (λ c. LiesIn (length body.now) c) }
     ensures { result.now ≡ text body.now otherwise.now child }
 {

@@ -2,10 +2,10 @@ ghost use Rattle.std.specs.Prelude.{◌≡◌, ◌≤◌, length, IfOk};
 ghost use Rattle.mc_tracks.specs.Children.{children_of};
 ghost use Rattle.mc_tracks.specs.Header.{asks_more, is_matroska, header_checked, ebml_header_of};
 
-use crate::children::{Child, Master, find_broken, read_element};
+use crate::children::{Master, find_broken};
 use crate::fields::{body_of, find_integer, find_text};
 use crate::refused::Refused;
-use mc_ebml::ids;
+use mc_ebml::{ids, read_element};
 
 /// The offset behind the EBML header with which a film begins (RFC 8794, section 11.2).
 ///

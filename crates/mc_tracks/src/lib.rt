@@ -16,7 +16,7 @@ mod selection;
 mod track;
 mod tracks;
 
-pub use children::{Child, Master, read_element};
+pub use children::Master;
 pub use choice::default_choice;
 pub use header::parse_ebml_header;
 pub use info::parse_info;

@@ -1,16 +1,17 @@
 ghost use Rattle.std.specs.Prelude.{◌≡◌, ◌+◌, ◌<◌, ◌≤◌, ◌^◌, [], ◌∷◌, ◌++◌, None, length, is_some, IfOk};
 ghost use Rattle.mc_tracks.specs.Answer.{Gives};
-ghost use Rattle.mc_tracks.specs.Children.{children_of, LiesIn};
+ghost use Rattle.mc_ebml.specs.Whole.{LiesIn};
+ghost use Rattle.mc_tracks.specs.Children.{children_of};
 ghost use Rattle.mc_tracks.specs.Header.{with_track, with_child, unless_broken, tracks_of};
 ghost use Rattle.mc_tracks.specs.TrackList.{numbered, IsTrackList};
 
-use crate::children::{Child, Master, read_child};
+use crate::children::{Master, read_child};
 use crate::entry::read_entry;
 use crate::fields::body_of;
 use crate::list::TrackList;
 use crate::refused::{Refused, TracksError};
 use crate::track::Track;
-use mc_ebml::ids;
+use mc_ebml::{WholeElement, ids};
 use std::alloc::Global;
 
 // How many tracks are listed at the most.
@@ -50,7 +51,7 @@ fn add_child(
     list: TrackList,
     body: &[u8],
     at: u64,
-    child: Child,
+    child: WholeElement,
 ) -> Result<TrackList, TracksError>
     requires fits { at + length body.now < 2 ^ 64 }
     requires lies { LiesIn (length body.now) child }

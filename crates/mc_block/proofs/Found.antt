@@ -3,27 +3,28 @@ use Rattle.std.proofs.Common.{◌≡◌, ℕ, zero, suc, ◌+◌, ◌-◌, ◌<�
 use Rattle.std.specs.Prelude.{option_map, IfSome}
 use Rattle.std.specs.Option.{option_or}
 use Rattle.std.proofs.lemmas.Bool.{le-leb, lt-leb}
-use Rattle.mc_block.specs.declared.group.Child.{Child}
+use Rattle.mc_ebml.specs.declared.whole.WholeElement.{WholeElement}
 use Rattle.mc_block.specs.declared.group.GroupParts.{GroupParts}
-use Rattle.mc_block.specs.Group.{child_at, children, children_of, found_among, with_child, first_block, refers}
+use Rattle.mc_ebml.specs.Whole.{element_at}
+use Rattle.mc_block.specs.Group.{children, children_of, found_among, with_child, first_block, refers}
 
-abbrev made : Option Child → Bool → GroupParts
+abbrev made : Option WholeElement → Bool → GroupParts
 made block had = record { block = block; refers = had }
 
 -- what children tell behind those that were seen
-abbrev pub with_children : GroupParts → List Child → GroupParts
+abbrev pub with_children : GroupParts → List WholeElement → GroupParts
 with_children found cs = record { block = option_or found.block (first_block cs); refers = found.refers || refers cs }
 
-abbrev pub after_found : GroupParts → Option (List Child) → Option GroupParts
+abbrev pub after_found : GroupParts → Option (List WholeElement) → Option GroupParts
 after_found found None = None
 after_found found (Some cs) = Some (with_children found cs)
 
-regrouped : (found : GroupParts) (c : Child) (others : Option (List Child))
-    → after_found found (option_map (λ (cs : List Child). c ∷ cs) others) ≡ after_found (with_child found c) others
+regrouped : (found : GroupParts) (c : WholeElement) (others : Option (List WholeElement))
+    → after_found found (option_map (λ (cs : List WholeElement). c ∷ cs) others) ≡ after_found (with_child found c) others
 regrouped found c None = refl
 regrouped found c (Some cs) = ap (λ (f : GroupParts). Some f) (same found.block (c.id == 0xA1) found.refers (c.id == 0xFB))
   where
-    same : (block : Option Child) (is : Bool) (had has : Bool)
+    same : (block : Option WholeElement) (is : Bool) (had has : Bool)
         → made (option_or block (cond is (Some c) (first_block cs))) (had || (has || refers cs))
         ≡ made (option_or (option_or block (cond is (Some c) None)) (first_block cs)) ((had || has) || refers cs)
     same (Some b) is true has = refl
@@ -37,11 +38,11 @@ pub begins : (octets : List ℕ) → after_found (record { block = None; refers 
 unfolding children_of
 begins octets = let k : length octets - 0 ≡ length octets = omega arith in rw k (same (children (length octets) octets 0))
   where
-    same : (r : Option (List Child)) → after_found (record { block = None; refers = false }) r ≡ option_map found_among r
+    same : (r : Option (List WholeElement)) → after_found (record { block = None; refers = false }) r ≡ option_map found_among r
     same None = refl
     same (Some cs) = refl
 
-pub goes_on : (found : GroupParts) (budget i at : ℕ) (octets : List ℕ) (c : Child) (total : Option GroupParts) → i < budget → at < length octets → Some c ≡ child_at octets at
+pub goes_on : (found : GroupParts) (budget i at : ℕ) (octets : List ℕ) (c : WholeElement) (total : Option GroupParts) → i < budget → at < length octets → Some c ≡ element_at octets at
     → after_found found (children (budget - i) octets at) ≡ total → after_found (with_child found c) (children (budget - (i + 1)) octets c.stop) ≡ total
 unfolding children
 goes_on found budget i at octets c total lt more child so_far =
@@ -50,7 +51,7 @@ goes_on found budget i at octets c total lt more child so_far =
     rw (k, lt-leb (length octets) at more, ← child) (regrouped found c (children (budget - (i + 1)) octets c.stop)) in
     sym one ∙ so_far
 
-pub breaks : (found : GroupParts) (budget i at : ℕ) (octets : List ℕ) (total : Option GroupParts) → i < budget → at < length octets → None ≡ child_at octets at
+pub breaks : (found : GroupParts) (budget i at : ℕ) (octets : List ℕ) (total : Option GroupParts) → i < budget → at < length octets → None ≡ element_at octets at
     → after_found found (children (budget - i) octets at) ≡ total → None ≡ total
 unfolding children
 breaks found budget i at octets total lt more child so_far =
@@ -61,7 +62,7 @@ breaks found budget i at octets total lt more child so_far =
 all_found : (found : GroupParts) → with_children found [] ≡ found
 all_found found = same found.block found.refers
   where
-    same : (block : Option Child) (had : Bool) → made (option_or block None) (had || false) ≡ made block had
+    same : (block : Option WholeElement) (had : Bool) → made (option_or block None) (had || false) ≡ made block had
     same None true = refl
     same None false = refl
     same (Some b) true = refl
@@ -87,12 +88,12 @@ is_done found budget i at octets total done so_far =
     sym one ∙ so_far
 
 -- a block that is found lies in so many octets
-pub kept : (found : GroupParts) (c : Child) (len : ℕ) → IfSome found.block (λ (b : Child). (b.at ≤ b.stop) × (b.stop ≤ len)) → c.at ≤ c.stop → c.stop ≤ len
-    → IfSome (with_child found c).block (λ (b : Child). (b.at ≤ b.stop) × (b.stop ≤ len))
+pub kept : (found : GroupParts) (c : WholeElement) (len : ℕ) → IfSome found.block (λ (b : WholeElement). (b.at ≤ b.stop) × (b.stop ≤ len)) → c.at ≤ c.stop → c.stop ≤ len
+    → IfSome (with_child found c).block (λ (b : WholeElement). (b.at ≤ b.stop) × (b.stop ≤ len))
 kept found c len lies order within = go found.block (c.id == 0xA1) lies
   where
-    go : (block : Option Child) (is : Bool) → IfSome block (λ (b : Child). (b.at ≤ b.stop) × (b.stop ≤ len))
-        → IfSome (option_or block (cond is (Some c) None)) (λ (b : Child). (b.at ≤ b.stop) × (b.stop ≤ len))
+    go : (block : Option WholeElement) (is : Bool) → IfSome block (λ (b : WholeElement). (b.at ≤ b.stop) × (b.stop ≤ len))
+        → IfSome (option_or block (cond is (Some c) None)) (λ (b : WholeElement). (b.at ≤ b.stop) × (b.stop ≤ len))
     go (Some b) is h = h
     go None true h = (order, within)
     go None false h = tt

@@ -12,7 +12,7 @@ use Rattle.mc_block.specs.declared.error.BlockError.TheVariants.{ShortBlock, Too
 use Rattle.mc_block.specs.declared.parts.Place.{Place}
 use Rattle.mc_block.specs.declared.parts.BlockHead.{BlockHead}
 use Rattle.mc_block.specs.declared.parts.BlockBody.{BlockBody}
-use Rattle.mc_block.specs.declared.group.Child.{Child}
+use Rattle.mc_ebml.specs.declared.whole.WholeElement.{WholeElement}
 use Rattle.mc_block.specs.Frames.{frames_of}
 use Rattle.mc_block.specs.Group.{children_of, first_block, refers}
 
@@ -64,10 +64,10 @@ abbrev pub simple_body_of : List ℕ → Result BlockBody BlockError
 simple_body_of body = if is_large body then Err TooLarge else Ok (record { octets = body; keyframe = None })
 
 -- a Block is a keyframe where nothing refers to another
-abbrev pub block_in : List ℕ → List Child → Child → BlockBody
+abbrev pub block_in : List ℕ → List WholeElement → WholeElement → BlockBody
 block_in body cs c = record { octets = slice_range body c.at c.stop; keyframe = Some (not (refers cs)) }
 
-abbrev pub block_among : List ℕ → Option (List Child) → Result (Option BlockBody) BlockError
+abbrev pub block_among : List ℕ → Option (List WholeElement) → Result (Option BlockBody) BlockError
 block_among body None = Err BadGroup
 block_among body (Some cs) = Ok (option_map (block_in body cs) (first_block cs))
 

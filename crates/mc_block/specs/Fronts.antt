@@ -2,9 +2,8 @@
 use Rattle.std.specs.Prelude.{◌≡◌, ℕ, ◌+◌, ◌≤◌, Bool, false, nat_le, if◌then◌else◌, List, ◌∷◌, length, drop, sum, Option, Some, None, unwrap_or, ⊤, Result, Ok, Err}
 use Rattle.mc_ebml.specs.declared.read.Head.{Head}
 use Rattle.mc_ebml.specs.declared.read.EbmlError.{EbmlError}
-use Rattle.mc_ebml.specs.declared.read.Size.{Size}
-use Rattle.mc_ebml.specs.declared.read.Size.TheVariants.{Known, Unknown}
-use Rattle.mc_block.specs.declared.group.Child.{Child}
+use Rattle.mc_ebml.specs.declared.whole.WholeElement.{WholeElement}
+use Rattle.mc_ebml.specs.Whole.{whole_element}
 use Rattle.mc_block.specs.declared.error.BlockError.{BlockError}
 use Rattle.mc_block.specs.declared.error.BlockError.TheVariants.{BadLace}
 use Rattle.mc_block.specs.declared.lace.Lacing.{Lacing}
@@ -19,14 +18,9 @@ abbrev pub moved_by : ℕ → Result Head EbmlError → Result Head EbmlError
 moved_by place (Ok h) = Ok (record { id = h.id; size = h.size; body = place + h.body })
 moved_by place (Err e) = Err e
 
--- the child of a group, which has so many octets, with this head at a place
-abbrev pub child_by : ℕ → ℕ → Result Head EbmlError → Option Child
-child_by at len (Err e) = None
-child_by at len (Ok h) = sized len h.id (at + h.body) h.size
-  where
-    sized : ℕ → ℕ → ℕ → Size → Option Child
-    sized len id begin Unknown = None
-    sized len id begin (Known n) = if nat_le (begin + n) len then Some (record { id = id; at = begin; stop = begin + n }) else None
+-- the child of a group, which has so many octets, by its head, which was read by itself, at a place
+abbrev pub child_by : ℕ → ℕ → Result Head EbmlError → Option WholeElement
+child_by place len head = whole_element len place (moved_by place head)
 
 -- ---- the sizes of a lace
 

@@ -1,56 +1,45 @@
 ghost use Rattle.std.specs.Prelude.{◌≡◌, ◌+◌, ◌<◌, ◌≤◌, ◌==◌, ℕ, List, length, take, drop, false, Some, None, option_map, IfOk, IfSome};
 ghost use Rattle.std.specs.List.{list_any};
 ghost use Rattle.mc_ebml.specs.Element.{head_at};
+ghost use Rattle.mc_ebml.specs.Whole.{element_at, LiesIn};
 ghost use Rattle.mc_block.specs.Fronts.{child_by};
-ghost use Rattle.mc_block.specs.Group.{child_at, children_of, with_child, found_among};
+ghost use Rattle.mc_block.specs.Group.{children_of, with_child, found_among};
 ghost use Rattle.mc_block.specs.Block.{Gives, group_body_of};
 
 use crate::error::BlockError;
 use crate::parts::BlockBody;
 use bytes::Bytes;
-use mc_ebml::{Size, ids, read_head};
+use mc_ebml::{Size, WholeElement, ids, read_element, read_head};
 use mc_packet::LARGEST_BLOCK;
-
-/// A child of a BlockGroup.
-#[derive(Clone, Copy, Debug, PartialEq, Eq)]
-pub struct Child {
-    /// Its ID, with the marker bit kept.
-    pub id: u32,
-    /// The offset in the group's body at which its own body begins.
-    pub at: usize,
-    /// The offset in the group's body at which it ends.
-    pub stop: usize,
-}
 
 /// What is found among a BlockGroup's children, so far as they were looked at.
 #[derive(Clone, Copy, Debug, PartialEq, Eq)]
 pub struct GroupParts {
     /// Its first Block.
-    pub block: Option<Child>,
+    pub block: Option<WholeElement>,
     /// Whether a ReferenceBlock stands among them, so that the Block is no keyframe.
     pub refers: bool,
 }
-
-// The most octets of an element's head: an ID has at most 4, a size 8.
-const HEAD: usize = 12;
 
 /// The child of a BlockGroup (RFC 9559, section 5.1.3.5) at offset `at` of the group's body, which
 /// has `len` octets, by the octets that stand there: the first 12, or all of fewer. `None` where
 /// it has no whole head or no size, or runs past the body's end.
 #[tactic(auto, using(crate::proofs::Children::child_here))]
-pub fn child_by_head(front: &[u8], at: usize, len: usize) -> Option<Child>
+pub fn child_by_head(front: &[u8], at: usize, len: usize) -> Option<WholeElement>
     requires { at + length front.now ≤ len }
     ensures law { (body : List ℕ) → length body ≡ len → front.now ≡ take 12 (drop at body)
-        → result ≡ child_at body at }
-    ensures lies { IfSome result (λ c. (at < c.at) × (c.at ≤ c.stop) × (c.stop ≤ len)) }
+        → result ≡ element_at body at }
+    ensures lies { IfSome result (λ c. LiesIn len c) }
+    ensures begins { IfSome result (λ c. c.place ≡ at) }
 {
     headed_child(front, at, len)
 }
 
-fn headed_child(front: &[u8], at: usize, len: usize) -> Option<Child>
+fn headed_child(front: &[u8], at: usize, len: usize) -> Option<WholeElement>
     requires { at + length front.now ≤ len }
     ensures value { result ≡ child_by at len (head_at front.now 0) }
-    ensures lies { IfSome result (λ c. (at < c.at) × (c.at ≤ c.stop) × (c.stop ≤ len)) }
+    ensures lies { IfSome result (λ c. LiesIn len c) }
+    ensures begins { IfSome result (λ c. c.place ≡ at) }
 {
     let head = read_head(front, 0).ok()?;
     let Size::Known(size) = head.size else {
@@ -60,24 +49,12 @@ fn headed_child(front: &[u8], at: usize, len: usize) -> Option<Child>
     if size > (len - begin) as u64 {
         return None;
     }
-    Some(Child {
+    Some(WholeElement {
         id: head.id,
+        place: at,
         at: begin,
         stop: begin + size as usize,
     })
-}
-
-// The child at a place, where it stands whole before the end.
-#[tactic(auto, using(crate::proofs::Children::front_cut))]
-fn read_child(octets: &[u8], at: usize) -> Option<Child>
-    requires { at ≤ length octets.now }
-    ensures value { result ≡ child_at octets.now at }
-    ensures lies { IfSome result
-        (λ c. (at < c.at) × (c.at ≤ c.stop) × (c.stop ≤ length octets.now)) }
-{
-    let (_, rest) = octets.split_at(at);
-    let (front, _) = rest.split_at(rest.len().min(HEAD));
-    child_by_head(front, at, octets.len())
 }
 
 impl GroupParts {
@@ -92,7 +69,7 @@ impl GroupParts {
     }
 
     /// What is found with the next child.
-    pub fn with(self, child: Child) -> GroupParts
+    pub fn with(self, child: WholeElement) -> GroupParts
         ensures { result ≡ with_child self child }
     {
         let block = if child.id == ids::BLOCK {
@@ -119,7 +96,7 @@ fn read_children(octets: &[u8]) -> Option<GroupParts>
         if at >= octets.len() {
             return Some(found);
         }
-        let child = read_child(octets, at)?;
+        let child = read_element(octets, at)?;
         found = found.with(child);
         at = child.stop;
     }

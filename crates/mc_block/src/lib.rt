@@ -17,7 +17,7 @@ mod write;
 
 pub use body::{block_head, block_track, simple_body};
 pub use error::BlockError;
-pub use group::{Child, GroupParts, child_by_head, group_body};
+pub use group::{GroupParts, child_by_head, group_body};
 pub use lace::{frames, is_laced};
 pub use lace_reader::LaceReader;
 pub use law::{packets_of_blocks, plain_blocks};

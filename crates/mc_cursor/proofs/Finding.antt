@@ -10,10 +10,11 @@ use Rattle.mc_ebml.specs.declared.read.Size.TheVariants.{Known, Unknown}
 use Rattle.mc_ebml.specs.declared.read.EbmlError.{EbmlError}
 use Rattle.mc_ebml.specs.declared.read.EbmlError.TheVariants.{Short}
 use Rattle.mc_ebml.specs.Element.{head_at}
-use Rattle.mc_tracks.specs.declared.children.Child.{Child}
+use Rattle.mc_ebml.specs.declared.whole.WholeElement.{WholeElement}
 use Rattle.mc_tracks.specs.declared.refused.Refused.{Refused}
 use Rattle.mc_tracks.specs.declared.refused.Refused.TheVariants.{NoSegment}
-use Rattle.mc_tracks.specs.Children.{element_at, whole_element, known_element, first}
+use Rattle.mc_ebml.specs.Whole.{element_at, whole_element, known_element}
+use Rattle.mc_tracks.specs.Children.{first}
 use Rattle.mc_ebml.specs.Ids.{SEGMENT, CLUSTER}
 use Rattle.mc_walk.specs.Moves.{runs_past}
 use Rattle.mc_walk.specs.declared.plan.Segment.{Segment}
@@ -71,7 +72,7 @@ found_in_film octets place f is within =
 
 -- ---- the Segment
 
-abbrev pub StopsOn : ℕ → ℕ → Child → Type 0
+abbrev pub StopsOn : ℕ → ℕ → WholeElement → Type 0
 StopsOn place len c = (place < c.stop) × (c.stop ≤ len)
 
 known_stops : (len place id at : ℕ) (size : Size) → place < at → IfSome (known_element len place id at size) (StopsOn place len)
@@ -87,12 +88,12 @@ pub element_stops : (octets : List ℕ) (place : ℕ) → place ≤ length octet
 unfolding element_at
 element_stops octets place within = whole_stops (length octets) place (head_at octets place) (head-lies octets place within)
 
-same_skip : (len place : ℕ) (c : Option Child) (f k : ℕ → Result Segment Refused) → IfSome c (StopsOn place len)
+same_skip : (len place : ℕ) (c : Option WholeElement) (f k : ℕ → Result Segment Refused) → IfSome c (StopsOn place len)
     → ((to : ℕ) → place < to → to ≤ len → f to ≡ k to) → skipped c f ≡ skipped c k
 same_skip len place None f k stops same = refl
 same_skip len place (Some c) f k stops same = same c.stop stops.0 stops.1
 
-same_segment : (len place : ℕ) (h : Result Head EbmlError) (c : Option Child) (f k : ℕ → Result Segment Refused) → IfSome c (StopsOn place len)
+same_segment : (len place : ℕ) (h : Result Head EbmlError) (c : Option WholeElement) (f k : ℕ → Result Segment Refused) → IfSome c (StopsOn place len)
     → ((to : ℕ) → place < to → to ≤ len → f to ≡ k to) → segment_or h c f ≡ segment_or h c k
 same_segment len place (Err e) c f k stops same = refl
 same_segment len place (Ok h) c f k stops same = ap (λ (r : Result Segment Refused). if h.id == SEGMENT then Ok (record { opening = h.body; end = end_by h.body h.size }) else r) (same_skip len place c f k stops same)
@@ -151,7 +152,7 @@ pub is_segment : (octets : List ℕ) (place : ℕ) (h : Head) → found.Element 
     → segment_after octets place ≡ Ok (record { opening = h.body; end = end_by h.body h.size })
 is_segment octets place h is within id = after_head octets place h is within ∙ rw (eq-eqb h.id SEGMENT id) refl
 
-skips_by : (octets : List ℕ) (place : ℕ) (h : Head) (c : Option Child) → found.Element h ≡ found_at octets place → place ≤ length octets → h.id ≢ SEGMENT → c ≡ element_at octets place
+skips_by : (octets : List ℕ) (place : ℕ) (h : Head) (c : Option WholeElement) → found.Element h ≡ found_at octets place → place ≤ length octets → h.id ≢ SEGMENT → c ≡ element_at octets place
     → segment_after octets place ≡ skipped c (λ on. segment_from (length octets - 1) octets on)
 skips_by octets place h c is within id element = after_head octets place h is within ∙ rw (differs h.id SEGMENT id, ← element) refl
 
@@ -159,7 +160,7 @@ pub not_whole : (octets : List ℕ) (place : ℕ) (h : Head) → found.Element h
     → segment_after octets place ≡ Err NoSegment
 not_whole octets place h is within id element = skips_by octets place h None is within id element
 
-pub goes_on : (octets : List ℕ) (place : ℕ) (h : Head) (c : Child) → found.Element h ≡ found_at octets place → place ≤ length octets → h.id ≢ SEGMENT → Some c ≡ element_at octets place
+pub goes_on : (octets : List ℕ) (place : ℕ) (h : Head) (c : WholeElement) → found.Element h ≡ found_at octets place → place ≤ length octets → h.id ≢ SEGMENT → Some c ≡ element_at octets place
     → (c.stop ≤ length octets) × (segment_after octets place ≡ segment_after octets c.stop)
 goes_on octets place h c is within id element =
     let stops = rw (← element) at (element_stops octets place within) in
@@ -185,22 +186,22 @@ pub cut_found : (octets : List ℕ) (place : ℕ) (f : Found) (h : Head) → f �
     → None ≡ whole_found (length octets) place f → segment_after octets place ≡ Err NoSegment
 cut_found octets place f h is some within id none = not_whole octets place h (sym (some_found f h some) ∙ is) within id (none ∙ sym (element_found octets place f is))
 
-pub skipped_found : (octets : List ℕ) (place : ℕ) (f : Found) (h : Head) (c : Child) → f ≡ found_at octets place → Some h ≡ head_in f → place ≤ length octets → h.id ≢ SEGMENT
+pub skipped_found : (octets : List ℕ) (place : ℕ) (f : Found) (h : Head) (c : WholeElement) → f ≡ found_at octets place → Some h ≡ head_in f → place ≤ length octets → h.id ≢ SEGMENT
     → Some c ≡ whole_found (length octets) place f → (c.stop ≤ length octets) × (segment_after octets place ≡ segment_after octets c.stop)
 skipped_found octets place f h c is some within id one = goes_on octets place h c (sym (some_found f h some) ∙ is) within id (one ∙ sym (element_found octets place f is))
 
 -- ---- children of the Segment
 
-pub child_found : (octets : List ℕ) (end : Option ℕ) (place : ℕ) (f : Found) (c : Option Child) → f ≡ found_at octets place → stands_at end place ≡ false → c ≡ whole_found (length octets) place f
+pub child_found : (octets : List ℕ) (end : Option ℕ) (place : ℕ) (f : Found) (c : Option WholeElement) → f ≡ found_at octets place → stands_at end place ≡ false → c ≡ whole_found (length octets) place f
     → before_cluster end c ≡ segment_child octets end place
 child_found octets end place f c is stands one =
     rw stands (ap (before_cluster end) (one ∙ sym (element_found octets place f is)))
 
 -- the first child of an ID from a place on
-abbrev pub child_after : List ℕ → Option ℕ → ℕ → ℕ → Option Child
+abbrev pub child_after : List ℕ → Option ℕ → ℕ → ℕ → Option WholeElement
 child_after octets end place id = first id (segment_children (length octets) octets end place)
 
-before_stops : (end : Option ℕ) (place len : ℕ) (c : Option Child) → IfSome c (StopsOn place len) → IfSome (before_cluster end c) (StopsOn place len)
+before_stops : (end : Option ℕ) (place len : ℕ) (c : Option WholeElement) → IfSome c (StopsOn place len) → IfSome (before_cluster end c) (StopsOn place len)
 before_stops end place len None stops = tt
 before_stops end place len (Some c) stops = cond_both (c.id == CLUSTER || runs_past end c.stop) _ _ (λ c. IfSome c (StopsOn place len)) (λ e. tt) (λ e. stops)
 
@@ -209,13 +210,13 @@ child_stops octets end place within =
     cond_both (stands_at end place) _ _ (λ c. IfSome c (StopsOn place (length octets))) (λ e. tt)
     (λ e. before_stops end place (length octets) (element_at octets place) (element_stops octets place within))
 
-same_following : (place len : ℕ) (c : Option Child) (f k : ℕ → List Child) → IfSome c (StopsOn place len) → ((to : ℕ) → place < to → to ≤ len → f to ≡ k to) → following c f ≡ following c k
+same_following : (place len : ℕ) (c : Option WholeElement) (f k : ℕ → List WholeElement) → IfSome c (StopsOn place len) → ((to : ℕ) → place < to → to ≤ len → f to ≡ k to) → following c f ≡ following c k
 same_following place len None f k stops same = refl
-same_following place len (Some c) f k stops same = ap (λ (cs : List Child). c ∷ cs) (same c.stop stops.0 stops.1)
+same_following place len (Some c) f k stops same = ap (λ (cs : List WholeElement). c ∷ cs) (same c.stop stops.0 stops.1)
 
 none_at_end : (octets : List ℕ) (end : Option ℕ) (place : ℕ) → place ≡ length octets → segment_child octets end place ≡ None
 unfolding element_at
-none_at_end octets end place e = rw (no_head_at_end octets place e) (cond_both (stands_at end place) _ _ (λ (c : Option Child). c ≡ None) (λ e. refl) (λ e. refl))
+none_at_end octets end place e = rw (no_head_at_end octets place e) (cond_both (stands_at end place) _ _ (λ (c : Option WholeElement). c ≡ None) (λ e. refl) (λ e. refl))
 
 children_at_end : (n : ℕ) (octets : List ℕ) (end : Option ℕ) (place : ℕ) → place ≡ length octets → segment_children n octets end place ≡ []
 unfolding segment_children
@@ -240,17 +241,17 @@ children_step octets end place within =
 pub no_child : (octets : List ℕ) (end : Option ℕ) (place id : ℕ) → place ≤ length octets → None ≡ segment_child octets end place → child_after octets end place id ≡ None
 no_child octets end place id within none = rw (children_step octets end place within, ← none) refl
 
-pub is_child : (octets : List ℕ) (end : Option ℕ) (place id : ℕ) (c : Child) → place ≤ length octets → Some c ≡ segment_child octets end place → c.id ≡ id → child_after octets end place id ≡ Some c
+pub is_child : (octets : List ℕ) (end : Option ℕ) (place id : ℕ) (c : WholeElement) → place ≤ length octets → Some c ≡ segment_child octets end place → c.id ≡ id → child_after octets end place id ≡ Some c
 is_child octets end place id c within one is = rw (children_step octets end place within, ← one, eq-eqb c.id id is) refl
 
-pub next_child : (octets : List ℕ) (end : Option ℕ) (place id : ℕ) (c : Child) → place ≤ length octets → Some c ≡ segment_child octets end place → c.id ≢ id
+pub next_child : (octets : List ℕ) (end : Option ℕ) (place id : ℕ) (c : WholeElement) → place ≤ length octets → Some c ≡ segment_child octets end place → c.id ≢ id
     → (c.stop ≤ length octets) × (child_after octets end place id ≡ child_after octets end c.stop id)
 next_child octets end place id c within one isnt =
     let stops = rw (← one) at (child_stops octets end place within) in
     (stops.1, rw (children_step octets end place within, ← one, differs c.id id isnt) refl)
 
 -- the first child of an ID stands in the film
-first_following : (octets : List ℕ) (place id : ℕ) (c : Option Child) (on : ℕ → List Child) → IfSome c (StopsOn place (length octets))
+first_following : (octets : List ℕ) (place id : ℕ) (c : Option WholeElement) (on : ℕ → List WholeElement) → IfSome c (StopsOn place (length octets))
     → ((to : ℕ) → to ≤ length octets → IfSome (first id (on to)) (λ c. c.stop ≤ length octets)) → IfSome (first id (following c on)) (λ c. c.stop ≤ length octets)
 first_following octets place id None on stops further = tt
 first_following octets place id (Some c) on stops further =

@@ -9,12 +9,13 @@ use Rattle.mc_ebml.specs.declared.read.Size.{Size}
 use Rattle.mc_ebml.specs.declared.read.Size.TheVariants.{Known, Unknown}
 use Rattle.mc_ebml.specs.declared.read.EbmlError.{EbmlError}
 use Rattle.mc_ebml.specs.Element.{head_at}
-use Rattle.mc_tracks.specs.declared.children.Child.{Child}
+use Rattle.mc_ebml.specs.declared.whole.WholeElement.{WholeElement}
 use Rattle.mc_tracks.specs.declared.children.Master.TheVariants.{EbmlHeader}
 use Rattle.mc_tracks.specs.declared.refused.Refused.{Refused}
 use Rattle.mc_tracks.specs.declared.refused.Refused.TheVariants.{NotEbml}
 use Rattle.mc_tracks.specs.Answer.{◌>>=◌}
-use Rattle.mc_tracks.specs.Children.{whole_element, element_at, children_of}
+use Rattle.mc_ebml.specs.Whole.{whole_element, element_at}
+use Rattle.mc_tracks.specs.Children.{children_of}
 use Rattle.mc_tracks.specs.Header.{body_of, as_header, header_checked, ebml_header_of}
 use Rattle.mc_ebml.specs.Ids.{EBML_HEADER}
 use Rattle.mc_cursor.specs.declared.reading.Found.{Found}
@@ -42,7 +43,7 @@ head_front : (m : ℕ) (octets : List ℕ) → 12 ≤ m → head_at (take m octe
 head_front m octets le =
     head_window (take m octets) 0 ∙ ap (λ w. moved_by 0 (head_at w 0)) (take_front 12 m octets le) ∙ sym (head_window octets 0)
 
-abbrev header_at : List ℕ → Child → Result ℕ Refused
+abbrev header_at : List ℕ → WholeElement → Result ℕ Refused
 header_at octets c = header_checked (body_of octets c) (children_of EbmlHeader (body_of octets c)) >>= λ _. Ok c.stop
 
 abbrev header_by : List ℕ → ℕ → Result Head EbmlError → Result ℕ Refused
@@ -150,7 +151,7 @@ checked_stop (Err e) stop at gives = absurd (cc gives)
 span_whole : (octets : List ℕ) (len at : ℕ) (h : Head) (size : ℕ) (whole is : Bool) → h.size ≡ Known size → nat_le (h.body + size) len ≡ whole → h.id == EBML_HEADER ≡ is
     → header_by octets len (Ok h) ≡ Ok at → header_span (found_by (Ok h)) ≤ max 12 at
 span_whole octets len at h size true true sized whole is gives =
-    let c : Child = record { id = h.id; place = 0; at = h.body; stop = h.body + size } in
+    let c : WholeElement = record { id = h.id; place = 0; at = h.body; stop = h.body + size } in
     let e : header_at octets c ≡ Ok at = rw (sized, whole, is) at gives in
     let stop : at ≡ h.body + size = checked_stop (header_checked (body_of octets c) (children_of EbmlHeader (body_of octets c))) (h.body + size) at e in
     rw (is, sized) (omega (arith, stop))

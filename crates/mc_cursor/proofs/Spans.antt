@@ -8,7 +8,7 @@ use Rattle.mc_packet.specs.declared.walk.Fault.{Fault}
 use Rattle.mc_packet.specs.declared.walk.Fault.TheVariants as faults
 use Rattle.mc_packet.specs.declared.walk.Ending.{Ending}
 use Rattle.mc_packet.specs.declared.walk.Ending.TheVariants.{Cut, Damaged}
-use Rattle.mc_block.specs.declared.group.Child.{Child}
+use Rattle.mc_ebml.specs.declared.whole.WholeElement.{WholeElement}
 use Rattle.mc_block.specs.declared.group.GroupParts.{GroupParts}
 use Rattle.mc_block.specs.declared.lace_reader.LaceReader.{LaceReader}
 use Rattle.mc_block.specs.Group.{children_of, found_among}
@@ -136,7 +136,7 @@ pub group_none : (octets : List ℕ) (c : Cursor) (place : ℕ) (b : Unread) (fo
     → Some found ≡ option_map found_among (children_of (slice_range octets b.at b.stop)) → found.block ≡ None → taken_of (plan_for octets c) place b ≡ Ok []
 group_none octets c place b found role le whole is none = group_whole octets c place b role le whole ∙ rw (← is, none) refl
 
-pub group_some : (octets : List ℕ) (c : Cursor) (place : ℕ) (b : Unread) (found : GroupParts) (child : Child) → b.role ≡ roles.BlockGroup → b.stop ≤ b.at + 67108864 → ends_before octets b.stop ≡ false
+pub group_some : (octets : List ℕ) (c : Cursor) (place : ℕ) (b : Unread) (found : GroupParts) (child : WholeElement) → b.role ≡ roles.BlockGroup → b.stop ≤ b.at + 67108864 → ends_before octets b.stop ≡ false
     → Some found ≡ option_map found_among (children_of (slice_range octets b.at b.stop)) → found.block ≡ Some child → b.at ≤ b.stop → child.at ≤ child.stop → child.stop ≤ b.stop - b.at
     → taken_of (plan_for octets c) place b
     ≡ span_taken octets c place (time_of b.level) (record { at = b.at + child.at; stop = b.at + child.stop; keyframe = Some (not found.refers) })

@@ -7,8 +7,8 @@ use Rattle.mc_outside.specs.Causes.{Rose}
 use Rattle.mc_tracks.specs.declared.refused.Refused.{Refused}
 use Rattle.mc_tracks.specs.declared.refused.TracksError.{TracksError}
 use Rattle.mc_tracks.specs.declared.refused.TracksError.TheVariants as causes
-use Rattle.mc_tracks.specs.declared.children.Child.{Child}
-use Rattle.mc_tracks.specs.Children.{whole_element}
+use Rattle.mc_ebml.specs.declared.whole.WholeElement.{WholeElement}
+use Rattle.mc_ebml.specs.Whole.{whole_element}
 use Rattle.mc_ebml.specs.Ids.{EBML_HEADER, INFO, TRACKS}
 use Rattle.mc_walk.specs.declared.plan.Segment.{Segment}
 use Rattle.mc_walk.specs.Opening.{opened_film, first_child}
@@ -60,7 +60,7 @@ header_span (found.Bad e) = 12
 header_span (found.Element h) = if h.id == EBML_HEADER then max 12 (stop_of h.body h.size) else 12
 
 -- the element at a place of a film of so many octets, by what was found there
-abbrev pub whole_found : ℕ → ℕ → Found → Option Child
+abbrev pub whole_found : ℕ → ℕ → Found → Option WholeElement
 whole_found len place found.End = None
 whole_found len place (found.Bad e) = None
 whole_found len place (found.Element h) = whole_element len place (Ok h)
@@ -78,7 +78,7 @@ head_in (found.Element h) = Some h
 
 -- ---- how far what a film opens with is read
 
-abbrev pub stop_by : Option Child → ℕ
+abbrev pub stop_by : Option WholeElement → ℕ
 stop_by None = 0
 stop_by (Some c) = c.stop
 
@@ -90,5 +90,5 @@ abbrev pub segment_for : Cursor → Segment
 segment_for c = record { opening = c.opening; end = c.segment_end }
 
 -- reads up to an element that was found go at most 12 octets behind it
-abbrev pub ReadsUnder : ℕ → ℕ → Option Child → Type 0
+abbrev pub ReadsUnder : ℕ → ℕ → Option WholeElement → Type 0
 ReadsUnder before now found = IfSome found (λ c. now ≤ max before (c.stop + 12))

@@ -1,7 +1,8 @@
 ghost use Rattle.std.specs.Prelude.{◌≡◌, ◌+◌, ◌-◌, ◌^◌, ◌<◌, ◌≤◌, length, slice_range, option_map, Option, IfOk, IfSome};
 ghost use Rattle.mc_outside.specs.Causes.{HasCause};
 ghost use Rattle.mc_outside.specs.Shelf.{OnlyReadsTo};
-ghost use Rattle.mc_block.specs.Group.{child_at, children_of, found_among};
+ghost use Rattle.mc_ebml.specs.Whole.{element_at};
+ghost use Rattle.mc_block.specs.Group.{children_of, found_among};
 ghost use Rattle.mc_cursor.specs.Reads.{InFile};
 ghost use Rattle.mc_cursor.specs.Spans.{HasBlock, LiesIn};
 ghost use Rattle.mc_cursor.specs.Steps.{IsBlock};
@@ -10,7 +11,8 @@ use crate::cursor::Cursor;
 use crate::reading::{read_ends_before, read_whole};
 use crate::span::Span;
 use crate::step::Unread;
-use mc_block::{Child, GroupParts, child_by_head};
+use mc_block::{GroupParts, child_by_head};
+use mc_ebml::WholeElement;
 use mc_outside::{FileNo, ReadFault, Shelf};
 use mc_packet::{Ending, Fault};
 use mc_walk::Role;
@@ -26,11 +28,11 @@ fn read_child<S: Shelf>(
     at: u64,
     next: usize,
     len: usize,
-) -> Result<Option<Child>, ReadFault>
+) -> Result<Option<WholeElement>, ReadFault>
     requires { (next ≤ len) × (at + len < 2 ^ 64) }
     ensures value { IfOk result (λ r. InFile S.files S.opened shelf.old file.0
         (λ octets. at + len ≤ length octets
-        → r ≡ child_at (slice_range octets at (at + len)) next)) }
+        → r ≡ element_at (slice_range octets at (at + len)) next)) }
     ensures lies { IfOk result (λ r. IfSome r
         (λ c. (next < c.at) × (c.at ≤ c.stop) × (c.stop ≤ len))) }
     ensures cause { HasCause (S.faults shelf.old) (S.faults shelf.new) result }

@@ -1,6 +1,6 @@
 ghost use Rattle.std.specs.Prelude.{◌≡◌, ◌≢◌, ◌+◌, ◌-◌, ◌^◌, ◌<◌, ◌≤◌, max, length, slice_range, Option, Some, None, Ok, IsErrOf, IfOk, IfSome};
 ghost use Rattle.mc_outside.specs.Causes.{HasCause};
-ghost use Rattle.mc_tracks.specs.Children.{element_at, whole_element};
+ghost use Rattle.mc_ebml.specs.Whole.{element_at, whole_element};
 ghost use Rattle.mc_cursor.specs.declared.reading.Found.TheVariants as found;
 ghost use Rattle.mc_tracks.specs.Header.{ebml_header_of, info_of, tracks_of};
 ghost use Rattle.mc_tracks.specs.TrackList.{IsTrackList};
@@ -15,10 +15,10 @@ ghost use Rattle.mc_cursor.specs.Begins.{BeginCause, Begins, Gives, header_span,
 use crate::cursor::Cursor;
 use crate::error::OpenError;
 use crate::reading::{Found, read_ends_before, read_found, read_front, read_lacks, read_part};
-use mc_ebml::{Head, Size, ids};
+use mc_ebml::{Head, Size, WholeElement, ids};
 use mc_outside::{FileNo, ReadFault, Shelf};
 use mc_packet::{LARGEST_HEADER, Level, Mark};
-use mc_tracks::{Child, Refused, TrackList, parse_ebml_header, parse_info, parse_tracks};
+use mc_tracks::{Refused, TrackList, parse_ebml_header, parse_info, parse_tracks};
 use mc_walk::{Header, Segment, body_end, child_before_cluster};
 use std::alloc::Global;
 
@@ -78,7 +78,7 @@ fn read_whole<S: Shelf>(
     file: FileNo,
     place: u64,
     head: Head,
-) -> Result<Option<Child>, ReadFault>
+) -> Result<Option<WholeElement>, ReadFault>
     requires { Lies place (found.Element head) }
     ensures value { IfOk result (λ c. InFile S.files S.opened shelf.old file.0
         (λ octets. head.body ≤ length octets → c ≡ whole_element (length octets) place (Ok head))) }
@@ -95,7 +95,7 @@ fn read_whole<S: Shelf>(
     if read_ends_before(shelf, file, head.body as u64, stop)? {
         return Ok(None);
     }
-    Ok(Some(Child {
+    Ok(Some(WholeElement {
         id: head.id,
         place: place as usize,
         at: head.body,
@@ -109,7 +109,7 @@ fn read_element_at<S: Shelf>(
     file: FileNo,
     place: u64,
     found: Found,
-) -> Result<Option<Child>, ReadFault>
+) -> Result<Option<WholeElement>, ReadFault>
     requires { Lies place found }
     ensures value { IfOk result (λ c. InFile S.files S.opened shelf.old file.0
         (λ octets. FoundIn (length octets) found → c ≡ whole_found (length octets) place found)) }
@@ -187,7 +187,7 @@ fn read_segment_child<S: Shelf>(
     file: FileNo,
     end: Option<u64>,
     place: u64,
-) -> Result<Option<Child>, ReadFault>
+) -> Result<Option<WholeElement>, ReadFault>
     ensures value { IfOk result (λ c. InFile S.files S.opened shelf.old file.0
         (λ octets. place ≤ length octets → c ≡ segment_child octets end place)) }
     ensures order { IfOk result (λ c. IfSome c
@@ -210,7 +210,7 @@ fn find_first<S: Shelf>(
     file: FileNo,
     segment: Segment,
     id: u32,
-) -> Result<Option<Child>, ReadFault>
+) -> Result<Option<WholeElement>, ReadFault>
     ensures value { IfOk result (λ c. InFile S.files S.opened shelf.old file.0
         (λ octets. segment.opening ≤ length octets → c ≡ first_child octets segment id)) }
     ensures order { IfOk result (λ c. IfSome c (λ x. (x.place < x.at) × (x.at ≤ x.stop))) }
@@ -253,7 +253,7 @@ fn read_info<S: Shelf>(
     alloc: Global,
     shelf: &mut S,
     file: FileNo,
-    child: Child,
+    child: WholeElement,
 ) -> Result<u64, OpenError>
     requires { child.at ≤ child.stop }
     ensures value { InFile S.files S.opened shelf.old file.0
@@ -277,7 +277,7 @@ fn read_tracks<S: Shelf>(
     alloc: Global,
     shelf: &mut S,
     file: FileNo,
-    child: Child,
+    child: WholeElement,
 ) -> Result<TrackList, OpenError>
     requires { child.at ≤ child.stop }
     ensures value { InFile S.files S.opened shelf.old file.0
@@ -302,8 +302,8 @@ fn read_info_first<S: Shelf>(
     alloc: Global,
     shelf: &mut S,
     file: FileNo,
-    info: Child,
-    tracks: Child,
+    info: WholeElement,
+    tracks: WholeElement,
 ) -> Result<Header, OpenError>
     requires info { info.at ≤ info.stop }
     requires tracks { tracks.at ≤ tracks.stop }
@@ -326,8 +326,8 @@ fn read_tracks_first<S: Shelf>(
     alloc: Global,
     shelf: &mut S,
     file: FileNo,
-    info: Child,
-    tracks: Child,
+    info: WholeElement,
+    tracks: WholeElement,
 ) -> Result<Header, OpenError>
     requires info { info.at ≤ info.stop }
     requires tracks { tracks.at ≤ tracks.stop }
@@ -350,8 +350,8 @@ fn read_found_header<S: Shelf>(
     alloc: Global,
     shelf: &mut S,
     file: FileNo,
-    info: Option<Child>,
-    tracks: Option<Child>,
+    info: Option<WholeElement>,
+    tracks: Option<WholeElement>,
 ) -> Result<Header, OpenError>
     requires info { IfSome info (λ c. c.at ≤ c.stop) }
     requires tracks { IfSome tracks (λ c. c.at ≤ c.stop) }

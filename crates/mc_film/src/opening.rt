@@ -1,12 +1,13 @@
 ghost use Rattle.std.specs.Prelude.{◌≡◌, ◌+◌, ◌^◌, ◌<◌, ◌≤◌, length, Option, IfOk, IfSome};
-ghost use Rattle.mc_tracks.specs.Children.{element_at, first, LiesIn};
+ghost use Rattle.mc_ebml.specs.Whole.{element_at, LiesIn};
+ghost use Rattle.mc_tracks.specs.Children.{first};
 ghost use Rattle.mc_walk.specs.Opening.{segment_of, segment_child, first_child, info_in, tracks_in, header_by, header_of, info_then_tracks, tracks_then_info};
 ghost use Rattle.mc_film.specs.Film.{Gives};
 
 use crate::whole::FilmError;
-use mc_ebml::{ids, read_head};
+use mc_ebml::{WholeElement, ids, read_element, read_head};
 use mc_packet::LARGEST_HEADER;
-use mc_tracks::{Child, Refused, TrackList, parse_info, parse_tracks, read_element};
+use mc_tracks::{Refused, TrackList, parse_info, parse_tracks};
 use mc_walk::{Header, Segment, body_end, child_before_cluster};
 use std::alloc::Global;
 
@@ -36,7 +37,7 @@ pub(crate) fn find_segment(octets: &[u8], from: usize) -> Result<Segment, Refuse
 }
 
 // The child of the Segment at a place: no Cluster, and whole in the film and in the Segment.
-fn read_segment_child(octets: &[u8], end: Option<u64>, place: usize) -> Option<Child>
+fn read_segment_child(octets: &[u8], end: Option<u64>, place: usize) -> Option<WholeElement>
     requires { place ≤ length octets.now }
     ensures value { result ≡ segment_child octets.now end place }
     ensures lies { IfSome result (λ c. LiesIn (length octets.now) c) }
@@ -48,7 +49,7 @@ fn read_segment_child(octets: &[u8], end: Option<u64>, place: usize) -> Option<C
 }
 
 // The first child of this ID before the first Cluster.
-fn find_first(octets: &[u8], segment: Segment, id: u32) -> Option<Child>
+fn find_first(octets: &[u8], segment: Segment, id: u32) -> Option<WholeElement>
     requires { segment.opening ≤ length octets.now }
     ensures value { result ≡ first_child octets.now segment id }
     ensures lies { IfSome result (λ c. LiesIn (length octets.now) c) }
@@ -64,7 +65,7 @@ fn find_first(octets: &[u8], segment: Segment, id: u32) -> Option<Child>
     None
 }
 
-fn read_info(octets: &[u8], child: Child) -> Result<u64, FilmError>
+fn read_info(octets: &[u8], child: WholeElement) -> Result<u64, FilmError>
     requires { LiesIn (length octets.now) child }
     ensures value { Gives result (info_in octets.now child) }
     ensures positive { IfOk result (λ scale. 0 < scale) }
@@ -76,7 +77,7 @@ fn read_info(octets: &[u8], child: Child) -> Result<u64, FilmError>
     Ok(parse_info(body, child.at as u64)?)
 }
 
-fn read_tracks(alloc: Global, octets: &[u8], child: Child) -> Result<TrackList, FilmError>
+fn read_tracks(alloc: Global, octets: &[u8], child: WholeElement) -> Result<TrackList, FilmError>
     requires { LiesIn (length octets.now) child }
     ensures { Gives result (tracks_in octets.now child) }
 {
@@ -91,8 +92,8 @@ fn read_tracks(alloc: Global, octets: &[u8], child: Child) -> Result<TrackList, 
 fn read_info_first(
     alloc: Global,
     octets: &[u8],
-    info: Child,
-    tracks: Child,
+    info: WholeElement,
+    tracks: WholeElement,
 ) -> Result<Header, FilmError>
     requires info { LiesIn (length octets.now) info }
     requires tracks { LiesIn (length octets.now) tracks }
@@ -108,8 +109,8 @@ fn read_info_first(
 fn read_tracks_first(
     alloc: Global,
     octets: &[u8],
-    info: Child,
-    tracks: Child,
+    info: WholeElement,
+    tracks: WholeElement,
 ) -> Result<Header, FilmError>
     requires info { LiesIn (length octets.now) info }
     requires tracks { LiesIn (length octets.now) tracks }

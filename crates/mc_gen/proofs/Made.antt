@@ -4,7 +4,8 @@ use Rattle.std.specs.Str.{IsAscii, is_utf8}
 use Rattle.std.proofs.lemmas.Str.{IsUtf8-from_ascii, is_utf8-from_IsUtf8}
 use Rattle.mc_ebml.specs.Element.{head_at, id_at, size_at, coded_at, uint_of, text_of}
 use Rattle.mc_ebml.specs.Written.{head_octets, element_octets}
-use Rattle.mc_tracks.specs.Children.{element_at, child_at, children, children_of}
+use Rattle.mc_ebml.specs.Whole.{element_at}
+use Rattle.mc_tracks.specs.Children.{child_at, children, children_of}
 use Rattle.mc_tracks.specs.Header.{entry_of, tracks_of}
 use Rattle.mc_written.specs.Elements.{elements}
 use Rattle.mc_gen.specs.Made.{made_body, made_elements, made_tracks}

@@ -3,7 +3,7 @@ use Rattle.std.proofs.Common.{◌≡◌, ◌≢◌, ℕ, ◌<◌, Bool, true, fa
 use Rattle.std.proofs.lemmas.Bool.{cond_both, eqb-false}
 use Rattle.std.specs.Prelude.{◌==◌}
 use Rattle.mc_ebml.specs.Ids.{INFO, TRACKS, TIMESTAMP_SCALE}
-use Rattle.mc_tracks.specs.declared.children.Child.{Child}
+use Rattle.mc_ebml.specs.declared.whole.WholeElement.{WholeElement}
 use Rattle.mc_tracks.specs.declared.children.Master.TheVariants as masters
 use Rattle.mc_tracks.specs.declared.refused.Refused.{Refused}
 use Rattle.mc_tracks.specs.declared.refused.Refused.TheVariants.{ScaleZero}
@@ -36,23 +36,23 @@ info_positive body at =
     if_ok-then Any IsPositive (unless_broken at (children_of masters.Info body).broken) _ (any (unless_broken at (children_of masters.Info body).broken))
     (λ _ _. positive (integer body 1000000 (first TIMESTAMP_SCALE (children_of masters.Info body).whole)))
 
-info_shape : (octets : List ℕ) (c : Child) → IfOk (info_in octets c) IsPositive
+info_shape : (octets : List ℕ) (c : WholeElement) → IfOk (info_in octets c) IsPositive
 info_shape octets c = cond_both (is_too_large c) _ _ (λ r. IfOk r IsPositive) (λ e. tt) (λ e. info_positive (body_of octets c) c.at)
 
 listed : (law : TracksAreListed) (body : List ℕ) (at : ℕ) (r : Result (List Track) Refused) → tracks_of body at ≡ r → IfOk r IsTrackList
 listed law body at (Err e) is = tt
 listed law body at (Ok tracks) is = law body at tracks is
 
-tracks_shape : (law : TracksAreListed) (octets : List ℕ) (c : Child) → IfOk (tracks_in octets c) IsTrackList
+tracks_shape : (law : TracksAreListed) (octets : List ℕ) (c : WholeElement) → IfOk (tracks_in octets c) IsTrackList
 tracks_shape law octets c =
     cond_both (is_too_large c) _ _ (λ r. IfOk r IsTrackList) (λ e. tt) (λ e. listed law (body_of octets c) c.at (tracks_of (body_of octets c) c.at) refl)
 
-info_first : (law : TracksAreListed) (octets : List ℕ) (i t : Child) → IfOk (info_then_tracks octets i t) HasShape
+info_first : (law : TracksAreListed) (octets : List ℕ) (i t : WholeElement) → IfOk (info_then_tracks octets i t) HasShape
 info_first law octets i t =
     if_ok-then IsPositive HasShape (info_in octets i) _ (info_shape octets i) (λ scale p.
     if_ok-then IsTrackList HasShape (tracks_in octets t) _ (tracks_shape law octets t) (λ list l. (p, l)))
 
-tracks_first : (law : TracksAreListed) (octets : List ℕ) (i t : Child) → IfOk (tracks_then_info octets i t) HasShape
+tracks_first : (law : TracksAreListed) (octets : List ℕ) (i t : WholeElement) → IfOk (tracks_then_info octets i t) HasShape
 tracks_first law octets i t =
     if_ok-then IsTrackList HasShape (tracks_in octets t) _ (tracks_shape law octets t) (λ list l.
     if_ok-then IsPositive HasShape (info_in octets i) _ (info_shape octets i) (λ scale p. (p, l)))
@@ -65,7 +65,7 @@ no_info : (r : Result (List Track) Refused) → IfOk (without_info r) HasShape
 no_info (Ok list) = tt
 no_info (Err e) = tt
 
-by_children : (law : TracksAreListed) (octets : List ℕ) (i t : Option Child) → IfOk (header_by octets i t) HasShape
+by_children : (law : TracksAreListed) (octets : List ℕ) (i t : Option WholeElement) → IfOk (header_by octets i t) HasShape
 by_children law octets None None = tt
 by_children law octets (Some i) None = no_tracks (info_in octets i)
 by_children law octets None (Some t) = no_info (tracks_in octets t)

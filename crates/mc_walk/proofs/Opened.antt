@@ -7,11 +7,12 @@ use Rattle.mc_ebml.specs.declared.read.Size.{Size}
 use Rattle.mc_ebml.specs.declared.read.Size.TheVariants.{Known, Unknown}
 use Rattle.mc_ebml.specs.declared.read.EbmlError.{EbmlError}
 use Rattle.mc_ebml.specs.Element.{head_at}
-use Rattle.mc_tracks.specs.declared.children.Child.{Child}
+use Rattle.mc_ebml.specs.declared.whole.WholeElement.{WholeElement}
 use Rattle.mc_tracks.specs.declared.refused.Refused.{Refused}
 use Rattle.mc_tracks.specs.declared.children.Master.TheVariants.{EbmlHeader}
 use Rattle.mc_tracks.specs.Answer.{◌>>=◌}
-use Rattle.mc_tracks.specs.Children.{known_element, whole_element, element_at, children_of}
+use Rattle.mc_ebml.specs.Whole.{known_element, whole_element, element_at}
+use Rattle.mc_tracks.specs.Children.{children_of}
 use Rattle.mc_tracks.specs.Header.{body_of, as_header, header_checked, ebml_header_of}
 use Rattle.mc_ebml.specs.Ids.{EBML_HEADER, SEGMENT}
 use Rattle.mc_walk.specs.declared.plan.Plan.{Plan}
@@ -32,7 +33,7 @@ any (Err e) = tt
 
 -- ---- an element that stands whole
 
-abbrev StopsBy : ℕ → Child → Type 0
+abbrev StopsBy : ℕ → WholeElement → Type 0
 StopsBy len c = c.stop ≤ len
 
 known-stops : (len place id at : ℕ) (size : Size) → IfSome (known_element len place id at size) (StopsBy len)
@@ -50,7 +51,7 @@ element-stops octets place = whole-stops (length octets) place (head_at octets p
 
 -- ---- the EBML header
 
-as_header-stops : (len : ℕ) (c : Option Child) → IfSome c (StopsBy len) → IfOk (as_header c) (StopsBy len)
+as_header-stops : (len : ℕ) (c : Option WholeElement) → IfSome c (StopsBy len) → IfOk (as_header c) (StopsBy len)
 as_header-stops len None h = tt
 as_header-stops len (Some c) h = cond_both (c.id == EBML_HEADER) _ _ (λ r. IfOk r (StopsBy len)) (λ e. h) (λ e. tt)
 
@@ -69,12 +70,12 @@ OpensIn len opening = (0 < opening) × (opening ≤ len)
 abbrev SegmentIn : ℕ → Segment → Type 0
 SegmentIn len s = OpensIn len s.opening
 
-skipped-opens : (len : ℕ) (c : Option Child) (on : ℕ → Result Segment Refused) → IfSome c (StopsBy len) → ((place : ℕ) → place ≤ len → IfOk (on place) (SegmentIn len))
+skipped-opens : (len : ℕ) (c : Option WholeElement) (on : ℕ → Result Segment Refused) → IfSome c (StopsBy len) → ((place : ℕ) → place ≤ len → IfOk (on place) (SegmentIn len))
     → IfOk (skipped c on) (SegmentIn len)
 skipped-opens len None on stops further = tt
 skipped-opens len (Some c) on stops further = further c.stop stops
 
-segment-opens : (len place : ℕ) (h : Result Head EbmlError) (c : Option Child) (on : ℕ → Result Segment Refused) → IfOk h (λ h. (place < h.body) × (h.body ≤ len))
+segment-opens : (len place : ℕ) (h : Result Head EbmlError) (c : Option WholeElement) (on : ℕ → Result Segment Refused) → IfOk h (λ h. (place < h.body) × (h.body ≤ len))
     → IfSome c (StopsBy len) → ((place : ℕ) → place ≤ len → IfOk (on place) (SegmentIn len)) → IfOk (segment_or h c on) (SegmentIn len)
 segment-opens len place (Err e) c on lies stops further = tt
 segment-opens len place (Ok h) c on lies stops further =

@@ -7,7 +7,7 @@ use Rattle.mc_block.specs.declared.error.BlockError.{BlockError}
 use Rattle.mc_block.specs.declared.parts.Place.{Place}
 use Rattle.mc_block.specs.declared.parts.BlockHead.{BlockHead}
 use Rattle.mc_block.specs.declared.parts.BlockBody.{BlockBody}
-use Rattle.mc_block.specs.declared.group.Child.{Child}
+use Rattle.mc_ebml.specs.declared.whole.WholeElement.{WholeElement}
 use Rattle.mc_block.specs.declared.group.GroupParts.{GroupParts}
 use Rattle.mc_block.specs.declared.lace_reader.LaceReader.{LaceReader}
 use Rattle.mc_block.specs.Block.{track_of, head_of, frame_time, in_range, time_of, is_key, packets_behind}
@@ -126,7 +126,7 @@ LaceTells b octets first (Some lace) = first ≡ lace_mark b (is_good lace (drop
 -- ---- groups
 
 -- the Block that was found in a group's body
-abbrev pub block_with : List ℕ → Bool → Child → BlockBody
+abbrev pub block_with : List ℕ → Bool → WholeElement → BlockBody
 block_with body refers c = record { octets = slice_range body c.at c.stop; keyframe = Some (not refers) }
 
 -- the packets of a group with that body, by what its children tell

@@ -3,9 +3,8 @@ ghost use Rattle.mc_ebml.specs.Element.{IsSmall};
 ghost use Rattle.mc_walk.specs.Opening.{before_cluster, end_by};
 ghost use Rattle.mc_walk.specs.Walk.{time_of};
 
-use mc_ebml::{Size, ids};
+use mc_ebml::{Size, WholeElement, ids};
 use mc_packet::Level;
-use mc_tracks::Child;
 
 /// The offset at which a body ends that begins at another, if its size is known.
 pub fn body_end(at: usize, size: Size) -> Option<u64>
@@ -21,7 +20,7 @@ pub fn body_end(at: usize, size: Size) -> Option<u64>
 
 /// A child of the Segment that stands before its first Cluster: it is no Cluster itself, and does
 /// not run past the Segment's end, where that is known.
-pub fn child_before_cluster(end: Option<u64>, child: Option<Child>) -> Option<Child>
+pub fn child_before_cluster(end: Option<u64>, child: Option<WholeElement>) -> Option<WholeElement>
     ensures value { result ≡ before_cluster end child }
     ensures same { IfSome result (λ c. child ≡ Some c) }
 {

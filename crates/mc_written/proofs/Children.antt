@@ -8,9 +8,10 @@ use Rattle.std.specs.Str.{IsUtf8}
 use Rattle.mc_ebml.specs.declared.read.Size.TheVariants.{Known}
 use Rattle.mc_ebml.specs.Element.{uint_of, text_of}
 use Rattle.mc_ebml.specs.Written.{is_id, head_octets, element_octets, has_no_zero}
-use Rattle.mc_tracks.specs.declared.children.Child.{Child}
+use Rattle.mc_ebml.specs.declared.whole.WholeElement.{WholeElement}
 use Rattle.mc_tracks.specs.declared.children.Master.{Master}
-use Rattle.mc_tracks.specs.Children.{element_at, child_at, is_integer, children, children_of, first}
+use Rattle.mc_ebml.specs.Whole.{element_at}
+use Rattle.mc_tracks.specs.Children.{child_at, is_integer, children, children_of, first}
 use Rattle.mc_tracks.specs.Header.{body_of, integer, text}
 use Rattle.mc_written.proofs.Lower.{Lower}
 use Rattle.mc_written.specs.Elements.{Element, element_text, elements}
@@ -18,10 +19,10 @@ use Rattle.mc_written.proofs.Standing.{Stands, stands_whole, first_part, second_
 use Rattle.mc_written.proofs.Lengths.{element_long}
 
 -- the child that an element at a place is
-abbrev pub child_of : ℕ → Element → Child
+abbrev pub child_of : ℕ → Element → WholeElement
 child_of at e = record { id = e.0; place = at; at = at + length (head_octets e.0 (Known (length e.1))); stop = at + length (element_text e) }
 
-abbrev pub children_at : ℕ → List Element → List Child
+abbrev pub children_at : ℕ → List Element → List WholeElement
 children_at at [] = []
 children_at at (e ∷ es) = child_of at e ∷ children_at (at + length (element_text e)) es
 

@@ -9,7 +9,7 @@ use Rattle.byteorder.specs.Numbers.{length-bytes_high_first}
 use Rattle.mc_packet.specs.declared.choice.Kind.{Kind}
 use Rattle.mc_packet.specs.declared.choice.Kind.TheVariants.{Video, Audio, Sub}
 use Rattle.mc_ebml.specs.Written.{is_id, octets_of, has_no_zero}
-use Rattle.mc_tracks.specs.declared.children.Child.{Child}
+use Rattle.mc_ebml.specs.declared.whole.WholeElement.{WholeElement}
 use Rattle.mc_tracks.specs.declared.children.Master.{Master}
 use Rattle.mc_tracks.specs.declared.children.Master.TheVariants.{TrackEntry}
 use Rattle.mc_tracks.specs.declared.track.Track.{Track}
@@ -127,7 +127,7 @@ unfolding entry_of
 entry_read law t at can =
     let es : List Element = track_elements t in
     let body : List ℕ = elements es in
-    let cs : List Child = children_at 0 es in
+    let cs : List WholeElement = children_at 0 es in
     let stands = stands_whole body in
     let no : integer body 0 (first TRACK_NUMBER cs) ≡ t.no = integer_read body 0 0 TRACK_NUMBER es stands ∙ number_value law 0 t.no can.numbers.number in
     let some : (t.no == 0) ≡ false = let above = can.listed.positive in ne_eqb t.no 0 (λ e. omega arith) in

@@ -1,4 +1,5 @@
 pub mod Answers
+pub mod Aside
 pub mod Fields
 pub mod Law
 pub mod Lines

@@ -36,6 +36,7 @@
 #![tactic(auto)]
 
 mod acts;
+mod aside;
 mod facts;
 pub mod fields;
 mod lines;

@@ -1,6 +1,7 @@
-ghost use Rattle.std.specs.Prelude.{◌≡◌, ◌<◌, ◌≤◌, ◌+◌, ◌++◌, ◌∷◌, [], OnOk, OnErr, length, remove};
+ghost use Rattle.std.specs.Prelude.{◌≡◌, ◌<◌, ◌≤◌, ◌+◌, ◌-◌, ◌++◌, ◌∷◌, [], OnOk, OnErr, length, max, remove};
 ghost use Rattle.mc_playlist.specs.Steps.{alone, moved};
 
+use crate::aside::Aside;
 use mc_value::{NoMemory, Text};
 use std::alloc::Global;
 use std::marker::Model;
@@ -69,21 +70,23 @@ impl Names {
         self.items.insert(to, name).unwrap();
     }
 
-    /// Takes all names out but the one at a place. It takes no memory.
-    pub fn keep_alone(&mut self, at: usize)
+    /// Takes all names out but the one at a place; those that are many are put aside.
+    pub fn keep_alone(&mut self, at: usize, aside: &mut Aside)
         requires { at < length self.old }
         ensures value { self.new ≡ alone at self.old }
         ensures count { length self.new ≡ 1 }
+        ensures aside { aside.new ≤ max aside.old (length self.old - 1) }
     {
         let name = self.items.remove(at);
-        self.items.clear();
+        aside.empty(&mut self.items);
         self.items.push(name).unwrap();
     }
 
-    /// Takes all names out.
-    pub fn clear(&mut self)
-        ensures { self.new ≡ [] }
+    /// Takes all names out; those that are many are put aside.
+    pub fn clear(&mut self, aside: &mut Aside)
+        ensures value { self.new ≡ [] }
+        ensures aside { aside.new ≤ max aside.old (length self.old) }
     {
-        self.items.clear();
+        aside.empty(&mut self.items);
     }
 }

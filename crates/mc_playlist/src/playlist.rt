@@ -7,6 +7,7 @@ ghost use Rattle.mc_playlist.specs.declared.steps.ListError.TheVariants.{NoEntry
 ghost use Rattle.mc_playlist.specs.declared.steps.ListStep.TheVariants as steps;
 
 use crate::acts::ListAct;
+use crate::aside::Aside;
 use crate::facts::ListFacts;
 use crate::meanings::ListMeaning;
 use crate::places::{kept_place, next_place, place_before, place_or_first, pos_moved, pos_without};
@@ -21,21 +22,28 @@ const MOST_ENTRIES: u32 = 10_000;
 
 /// A list of at most 10,000 films by their names, the place of the one that is played next, and how
 /// often one was played.
+///
+/// A `Clear` of more than 1,000 names keeps their memory, so that it takes no longer than to give
+/// back 2,000. It is that of at most 10,000 names at any time: each name that is added gives four
+/// back, and the end of the list all.
 #[derive(Drop)]
 pub struct Playlist {
     // written by `step` alone
     facts: ListFacts,
+    // names that were cleared, and whose memory later steps give back
+    aside: Aside,
 }
 
 impl Model for Playlist {
-    ghost use Rattle.mc_playlist.specs.Steps.{IsList};
+    ghost use Rattle.mc_playlist.specs.Aside.{MayBeAside};
+    ghost use Rattle.mc_playlist.specs.Steps.{IsList, count};
     ghost use Rattle.mc_playlist.specs.declared.facts.ListFacts.{ListFacts};
 
     ghost Value = { ListFacts };
 
     ghost view = { λ p. p.facts };
 
-    ghost invariant = { λ p. IsList p.facts };
+    ghost invariant = { λ p. IsList p.facts × MayBeAside p.aside (count p.facts) };
 }
 
 impl Playlist {
@@ -50,6 +58,7 @@ impl Playlist {
     {
         Playlist {
             facts: ListFacts::new(alloc),
+            aside: Aside::new(alloc),
         }
     }
 
@@ -64,7 +73,7 @@ impl Playlist {
     /// Does a step, as `ListStep` says. `NoEntry` where no entry is at the place that is wanted: of
     /// `Move` the first place is looked at first, and it may be put before the number of entries,
     /// which is the end; `Prev` and `Played` want place 0 where the list has no place, and `Prev`
-    /// at place 0 too. `TooMany` exactly at an `Add` to 10,000 entries. Only an `Add` takes memory.
+    /// at place 0 too. `TooMany` exactly at an `Add` to 10,000 entries. Only an `Add` wants memory.
     /// After a refusal nothing changed; else only the fields that `ListStep::fields` tells did. The
     /// list's place stays with its entry where other entries come, go or move.
     pub fn step(&mut self, step: ListStep) -> Result<(), ListError>
@@ -149,6 +158,7 @@ impl Playlist {
         if self.count() >= MOST_ENTRIES {
             return Err(ListError::TooMany);
         }
+        self.aside.give_back();
         self.facts.names.push(name)?;
         Ok(())
     }
@@ -185,10 +195,10 @@ impl Playlist {
     {
         match self.facts.pos {
             Some(pos) => {
-                self.facts.names.keep_alone(pos as usize);
+                self.facts.names.keep_alone(pos as usize, &mut self.aside);
                 self.facts.pos = Some(0);
             }
-            None => self.facts.names.clear(),
+            None => self.facts.names.clear(&mut self.aside),
         }
         Ok(())
     }

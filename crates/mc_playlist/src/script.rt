@@ -79,6 +79,8 @@ impl Reading {
     }
 }
 
+// What the line of this number asks for, nothing where it has no word or is a comment; else a `BadLine` of
+// that number.
 fn parse_numbered(alloc: Global, number: u32, line: &str) -> Result<Option<ListAct>, ListError>
     ensures { MeansAt number result (line_said (strip_carriage_return line.now)) }
 {
@@ -89,6 +91,7 @@ fn parse_numbered(alloc: Global, number: u32, line: &str) -> Result<Option<ListA
     }
 }
 
+// The line without the CR at its end, where it has one.
 fn without_return(line: &str) -> &str
     ensures { result.now ≡ strip_carriage_return line.now }
 {

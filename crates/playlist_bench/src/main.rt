@@ -32,7 +32,7 @@ pub fn tell<R: Print + Clock>(
 
 fn run<R: Print + Clock>(rt: &R, alloc: Global, entries: u32, is_timed: bool) -> io::Result<()> {
     let mut list = Playlist::new(alloc);
-    steps::add(rt, alloc, &mut list, entries, is_timed)?;
+    steps::add(rt, alloc, &mut list, "add", entries, is_timed)?;
     steps::go(rt, &mut list, entries, is_timed)?;
     steps::order(rt, &mut list, entries, is_timed)?;
     watching::watch(
@@ -42,7 +42,8 @@ fn run<R: Print + Clock>(rt: &R, alloc: Global, entries: u32, is_timed: bool) ->
         |_place: u32, facts: &ListFacts| Ok(properties::count(facts)),
         is_timed,
     )?;
-    steps::take_out(rt, &mut list, is_timed)
+    steps::take_out(rt, &mut list, is_timed)?;
+    steps::clear(rt, alloc, &mut list, entries, is_timed)
 }
 
 fn main(rt: HostRuntime) -> io::Result<()> {

@@ -44,12 +44,13 @@ pub fn add<R: Print + Clock>(
     rt: &R,
     alloc: Global,
     list: &mut Playlist,
+    what: &str,
     entries: u32,
     is_timed: bool,
 ) -> io::Result<()> {
     let start = Instant::now(rt)?;
     let done = fill(alloc, list, entries)?;
-    tell(rt, "add", done, start, is_timed)
+    tell(rt, what, done, start, is_timed)
 }
 
 /// Goes through so many entries.
@@ -93,7 +94,7 @@ pub fn order<R: Print + Clock>(
     )
 }
 
-/// Takes entries out: some of the first, and then all.
+/// Takes some of the first entries out.
 pub fn take_out<R: Print + Clock>(rt: &R, list: &mut Playlist, is_timed: bool) -> io::Result<()> {
     time(
         rt,
@@ -102,6 +103,30 @@ pub fn take_out<R: Print + Clock>(rt: &R, list: &mut Playlist, is_timed: bool) -
         SOME,
         &ListStep::Remove(0),
         is_timed,
+    )
+}
+
+/// Takes all entries out: of the list as it is, of a fifth of so many added behind that, and of so
+/// many where one is the list's place.
+pub fn clear<R: Print + Clock>(
+    rt: &R,
+    alloc: Global,
+    list: &mut Playlist,
+    entries: u32,
+    is_timed: bool,
+) -> io::Result<()> {
+    let clear = ListStep::Clear;
+    time(rt, list, "clear", 1, &clear, is_timed)?;
+    add(
+        rt,
+        alloc,
+        list,
+        "add, behind a clear",
+        entries / 5,
+        is_timed,
     )?;
-    time(rt, list, "clear", 1, &ListStep::Clear, is_timed)
+    time(rt, list, "clear, soon behind a clear", 1, &clear, is_timed)?;
+    fill(alloc, list, entries)?;
+    repeat(list, 1, &ListStep::Jump(0))?;
+    time(rt, list, "clear, with a place", 1, &clear, is_timed)
 }

@@ -162,6 +162,18 @@ if [ -w /dev/full ]; then
             failed=$((failed + 1))
         fi
     done
+    # Where standard error takes no line, the status is what it would be.
+    for words in "2 run" "2 gen 0" "3 run no-such-file" "3 run $film no-such-file" "5 run README.md"; do
+        # shellcheck disable=SC2086
+        "$program" ${words#* } 2>/dev/full >/dev/null
+        said=$?
+        if [ "$said" = "${words%% *}" ]; then
+            passed=$((passed + 1))
+        else
+            echo "command line: a full standard error makes the status $said for 'mcplay ${words#* }'"
+            failed=$((failed + 1))
+        fi
+    done
 fi
 echo "command line: $passed passed, $failed failed"
 [ "$failed" -eq 0 ] && bash tests/launcher.sh

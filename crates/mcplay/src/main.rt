@@ -128,28 +128,37 @@ fn carry_out(rt: &HostRuntime, words: &[String]) -> Exit {
 }
 
 // Carries out the words, and says on standard error why they came to nothing.
-fn perform(rt: &HostRuntime, words: &[String]) -> io::Result<u8> {
+fn perform(rt: &HostRuntime, words: &[String]) -> u8 {
     keep_packets_in_the_heap(rt);
     complain(rt, carry_out(rt, words))
 }
 
-fn complain(rt: &HostRuntime, exit: Exit) -> io::Result<u8> {
-    match exit {
-        Exit::Done => {}
-        Exit::Usage => eprintln!(rt; "{exit}, or mcplay gen [--sum] N")?,
-        exit => eprintln!(rt; "{exit}")?,
+// The status of how it ended, which is the same where standard error takes no line.
+fn complain(rt: &HostRuntime, exit: Exit) -> u8 {
+    let _ = match exit {
+        Exit::Done => Ok(()),
+        Exit::Usage => eprintln!(rt; "{exit}, or mcplay gen [--sum] N"),
+        exit => eprintln!(rt; "{exit}"),
+    };
+    exit.status()
+}
+
+// The status of a text that was asked for.
+fn status_of(printed: io::Result<()>) -> u8 {
+    match printed {
+        Ok(()) => Exit::Done.status(),
+        Err(_) => Exit::Sink.status(),
     }
-    Ok(exit.status())
 }
 
 fn main(rt: HostRuntime) -> ExitCode {
-    let ended = match words(&rt) {
+    let status = match words(&rt) {
         Err(exit) => complain(&rt, exit),
         Ok(words) => match words.as_slice() {
-            [word] if word.as_str() == "--help" => print!(rt; "{HELP}").map(|()| 0),
-            [word] if word.as_str() == "--version" => println!(rt; "mcplay 0.1.0").map(|()| 0),
+            [word] if word.as_str() == "--help" => status_of(print!(rt; "{HELP}")),
+            [word] if word.as_str() == "--version" => { status_of(println!(rt; "mcplay 0.1.0")) }
             words => perform(&rt, words),
         },
     };
-    ExitCode::from(ended.unwrap_or(4))
+    ExitCode::from(status)
 }

@@ -1,5 +1,6 @@
 ghost use Rattle.std.specs.Prelude.{◌≡◌, ◌∷◌, IfOk, IsSomeAnd, None as Nothing, OnErr, OnOk, length, nat_le};
 ghost use Rattle.mc_player.specs.Facts.{after_did, with_view};
+ghost use Rattle.mc_player.specs.Journals.{named};
 ghost use Rattle.mc_player.specs.Rules.{IsOutcome};
 ghost use Rattle.mc_player.specs.declared.record.CoreRecord.TheVariants.{Created, Destroyed, Did, Learned};
 ghost use Rattle.mc_core.specs.Calls.{Answers};
@@ -79,6 +80,13 @@ impl<F: Reads<M>, M: Meaning> Core<F, M> {
         ensures { result ≡ self.now.out }
     {
         self.state.out()
+    }
+
+    /// The living client of a name.
+    pub fn named(&self, name: &Text) -> Option<ClientNo>
+        ensures { result ≡ named (history self.now) name.now }
+    {
+        self.state.named(name)
     }
 
     /// All that happened, the oldest record first.
